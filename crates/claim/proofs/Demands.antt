@@ -1,0 +1,88 @@
+-- Demands 2 and 3, from what planning and the operations promise: the words of an accepted shape's plan pass every ground of a plan list, so on an accepted
+-- frame the operation runs them, and what the stages give in turn is what their sum, the shape, gives directly.
+use mathlib.Core.Path.{_≡_, sym, _∙_, ap, ap₂, subst}
+use mathlib.Core.Logic.{_⊎_, inl, inr}
+use mathlib.Core.List.{List}
+use Prim.Native.Nat.{ℕ, _+_}
+use native.Mathlib.Omega.{arith}
+use lib.ListN.{length, take}
+use Rattle.words.specs.declared.Answer.{Answer}
+use Rattle.cleaning.specs.declared.Operation.{Operation}
+use Rattle.plane.specs.Lists.{In}
+use Rattle.plane.specs.Point.{Point}
+use Rattle.words.specs.Ground.{firstOf, stated, result, refusal}
+use Rattle.words.proofs.Refusals.{Clear, clear, unclear, clear-append, result-no-refusal}
+use Rattle.masks.specs.Chain.{PlanOf}
+use Rattle.masks.specs.Mask.{stage}
+use Rattle.shapes.specs.Plan.{planPoints, planMasks, planWords, planTests}
+use Rattle.shapes.proofs.Accepted.{Shaped}
+use Rattle.shapes.proofs.Written.{plan-clear, masks-are, offset-is, plan-stands}
+use Rattle.planning.specs.Planning.{Shape, Planned, Unplanned}
+use Rattle.planning.proofs.Decided.{chain-of, accepted, written-words}
+use Rattle.cleaning.specs.Cleaning.{part, workTests, operationTests, stagesRun, Cleans}
+use Rattle.cleaning.specs.Operation.{Direct, inTurn}
+use Rattle.cleaning.proofs.Plans.{accepted-direct}
+use Rattle.cleaning.proofs.Turn.{same-direct}
+use Rattle.claim.specs.Demand.{Demand2, Demand3, Agrees, Served, Decided}
+
+-- ---- demand 2
+
+pub demand2 : Demand2
+demand2 op plan W H f i j s i′ j′ c e =
+    let ran = c .works e in
+    subst (Direct op W H f (In (planPoints plan))) (sym (ap (λ a. part (a .1) W H i′ j′) (ran .answer) ∙ ran .handed)) (accepted-direct op plan W H f i j e)
+
+-- ---- demand 3
+
+-- the grounds of an accepted frame and its images
+work-clear : (W H : ℕ) (f i j : List ℕ) → firstOf (workTests W H f i j) ≡ 0 → Clear (workTests W H f i j)
+unfolding workTests
+work-clear W H f i j e = clear (workTests W H f i j) tt e
+
+module _ (ws : List ℕ) (S : Shaped ws) (d : Point) (ms : List ℕ) (P : PlanOf stage (Shape ws) d ms) where
+  -- none of the four operations refuses the plan's words on an accepted frame
+  pub runs : (W H : ℕ) (f i j : List ℕ) → firstOf (workTests W H f i j) ≡ 0 → firstOf (operationTests (planWords d ms) W H f i j) ≡ 0
+  runs W H f i j e = unclear (operationTests (planWords d ms) W H f i j) (clear-append (planTests (planWords d ms)) (workTests W H f i j) (plan-clear ws S d ms P) (work-clear W H f i j e))
+
+  -- and each agrees
+  pub agrees : (op : Operation) (W H : ℕ) (f i j : List ℕ) (s : Answer) (i′ j′ : List ℕ) → firstOf (workTests W H f i j) ≡ 0 → Cleans op (planWords d ms) W H f i j s i′ j′ → Agrees op ws d ms W H f s i′ j′
+  agrees op W H f i j s i′ j′ e c =
+      let run = runs W H f i j e in
+      let ran = c .works run in
+      let n : stagesRun op (length (planMasks (planWords d ms))) ≡ stagesRun op (length ms) = ap (λ l. stagesRun op (length l)) (masks-are ws S d ms P) in
+      record {
+        answer = ran .answer ∙ ap result n;
+        turns = ap (λ a. part (a .1) W H i′ j′) (ran .answer) ∙ ran .handed ∙ ap₂ (λ p l. inTurn op W H f p l) (offset-is ws S d ms P) (masks-are ws S d ms P);
+        direct = same-direct op W H f (In (planPoints (planWords d ms))) (Shape ws) (part (stated s .1) W H i′ j′) (plan-stands ws S d ms P) (demand2 op (planWords d ms) W H f i j s i′ j′ c run);
+      }
+
+served : (ws out : List ℕ) (r : Answer) (out′ : List ℕ) → Shaped ws → Planned ws out r out′ → Served ws out r out′
+served ws out r out′ S w =
+    let d = w .offset in
+    let ms = w .stages in
+    let P = w .picked .plan in
+    let head : take (stated r .1) out′ ≡ planWords d ms = ap (λ a. take (a .1) out′) (w .answer) ∙ written-words ws out out′ S d ms P (w .words) in
+    record {
+      offset = d;
+      stages = ms;
+      answer = w .answer;
+      words = w .words;
+      picked = w .picked;
+      sum = P .sum;
+      fewest = w .fewest;
+      frames = λ op W H f i j s i′ j′ e. subst (λ p. Cleans op p W H f i j s i′ j′ → Agrees op ws d ms W H f s i′ j′) (sym head) (agrees ws S d ms P op W H f i j s i′ j′ e);
+    }
+
+-- a result is not refusal 10
+pub not-ten : (r : Answer) (n : ℕ) → stated r ≡ result n → stated r ≡ refusal 10 → ⊥
+not-ten r n p q = let z = result-no-refusal r n 10 p q in omega arith
+
+pub demand3 : Demand3
+demand3 ws out r out′ p e = go (p .works e)
+  where
+    go : Unplanned ws out r out′ ⊎ Planned ws out r out′ → Decided ws out r out′
+    go (inl u) = record { none = (λ _. u .none, λ _. u .answer); plan = inl (u .answer) }
+    go (inr w) = record {
+      none = (λ q. absurd (not-ten r (length (w .stages) + 2) (w .answer) q), λ f. absurd (f (chain-of (Shape ws) (w .offset) (w .stages) (w .picked .plan))));
+      plan = inr (served ws out r out′ (accepted ws out e) w);
+    }

@@ -1,0 +1,143 @@
+-- The statement `Measured`: the plans and the absence of chains are those of masks, found by the computed search; the frames are computed.
+use mathlib.Core.Path.{_≡_, refl, _∙_, ap, subst}
+use mathlib.Core.Bool.{not}
+use mathlib.Core.List.{List, [], _∷_, _++_}
+use Prim.Native.Nat.{ℕ, _+_, _*_, _≤_}
+use native.Mathlib.Omega.{arith}
+use lib.Dec.{T, eqb}
+use lib.IntN.{pos, negsuc}
+use lib.ListN.{length, length-map, drop}
+use Rattle.cleaning.specs.declared.Operation.{Operation}
+use Rattle.cleaning.specs.declared.Operation.the-variants.{Erosion, Opening, Closing}
+use Rattle.plane.specs.Extent.{span}
+use Rattle.plane.specs.Point.{_+ᵖ_, negᵖ, origin, Point}
+use Rattle.plane.proofs.Tests.{not-ltb, not-not, not-or, eq-eqb}
+use Rattle.words.specs.Ground.{firstOf, result}
+use Rattle.words.specs.Word.{stageWord}
+use Rattle.words.proofs.Refusals.{clear, unclear, clear-append}
+use Rattle.masks.specs.Chain.{Picked, Chain, subset}
+use Rattle.masks.specs.Mask.{stage, maskCells}
+use Rattle.masks.proofs.Cells.{sumCells, cellSums}
+use Rattle.masks.proofs.Examples.{one, four, four-order, four-other, apart, gap, eight}
+use Rattle.masks.proofs.Placed.{picked, placed}
+use Rattle.masks.proofs.Search.{search, same}
+use Rattle.shapes.specs.Calls.{shortOutput}
+use Rattle.shapes.specs.Plan.{planWords}
+use Rattle.shapes.specs.Shape.{shapeTests, shapePoints}
+use Rattle.shapes.proofs.Accepted.{accepted-shape}
+use Rattle.shapes.proofs.Written.{sum-small}
+use Rattle.planning.specs.Planning.{Shape, planningTests}
+use Rattle.planning.specs.Printer.{wordLines}
+use Rattle.planning.proofs.Decided.{can-plan, can-refuse, planned, unplanned}
+use Rattle.planning.proofs.Printed.{printed-plan}
+use Rattle.grids.specs.Frame.{badSize, badCell, gridSize, shortImage}
+use Rattle.grids.specs.Grid.{once}
+use Rattle.grids.specs.Image.{cells, valueAt}
+use Rattle.cleaning.specs.Cleaning.{workTests}
+use Rattle.cleaning.specs.Operation.{inTurn, lastGrid, Direct}
+use Rattle.cleaning.proofs.Kept.{can-clean}
+use Rattle.cleaning.proofs.Plans.{binary}
+use Rattle.cleaning.proofs.Turn.{turn-direct}
+use Rattle.claim.specs.Measured.{PlansAs, RefusedTen, CleansAs, Measured, fourWords, fourInput, threeWords, twoWords, rightWords, eightWords}
+use Rattle.claim.proofs.Demands.{runs, agrees}
+
+-- ---- planning
+
+-- a shape list that passes its grounds is accepted with any output list of 32 words or more
+accepts : (ws : List ℕ) → firstOf (shapeTests ws) ≡ 0 → (out : List ℕ) → 32 ≤ length out → firstOf (planningTests ws out) ≡ 0
+unfolding shapeTests
+accepts ws e out h =
+    unclear (planningTests ws out) (clear-append (shapeTests ws) ((9, shortOutput 32 out) ∷ []) (clear (shapeTests ws) tt e) (not-ltb (length out) 32 h, tt))
+
+module _ (ws : List ℕ) (d : Point) (ms : List ℕ) (e : firstOf (shapeTests ws) ≡ 0) (P : Picked stage (Shape ws) d ms) where
+  count : length ms + 2 ≡ length (planWords d ms)
+  count = let l = length-map ms stageWord in omega arith
+
+  plans-as : PlansAs ws (planWords d ms)
+  plans-as = record {
+    accepted = accepts ws e;
+    possible = λ out h. can-plan ws out (accepts ws e out h) d ms P;
+    answer = λ out h r out′ p. planned ws out (accepts ws e out h) r out′ p d ms P .0 ∙ ap result count;
+    words = λ out h r out′ p. planned ws out (accepts ws e out h) r out′ p d ms P .1 ∙ ap (λ n. planWords d ms ++ drop n out) count;
+  }
+
+refused-ten : (ws : List ℕ) → firstOf (shapeTests ws) ≡ 0 → ¬ Chain subset (Shape ws) → RefusedTen ws
+refused-ten ws e none = record {
+  accepted = accepts ws e;
+  possible = λ out h. can-refuse ws out (accepts ws e out h) none;
+  answer = λ out h r out′ p. unplanned ws out (accepts ws e out h) r out′ p none;
+}
+
+-- ---- frames of one row
+
+-- a row of free and occupied cells with two images that are long enough is accepted
+row-accepted : (f i j : List ℕ) → T (not (badSize (length f) 1)) → T (not (badCell f)) → gridSize (length f) 1 ≤ length i → gridSize (length f) 1 ≤ length j → firstOf (workTests (length f) 1 f i j) ≡ 0
+unfolding workTests
+row-accepted f i j b c h k =
+    unclear (workTests (length f) 1 f i j) (
+      b,
+      (
+        not-not (eqb (length f) (length f * 1)) (eq-eqb (one (length f))),
+        (
+          c,
+          (
+            not-or (shortImage (length f) 1 i) (shortImage (length f) 1 j) .1 (not-ltb (length i) (gridSize (length f) 1) h, not-ltb (length j) (gridSize (length f) 1) k),
+            tt,
+          ),
+        ),
+      ),
+    )
+  where
+    one : (n : ℕ) → n ≡ n * 1
+    one n = omega arith
+
+cleans-as : (op : Operation) (ws : List ℕ) (d : Point) (ms f r : List ℕ) → firstOf (shapeTests ws) ≡ 0 → Picked stage (Shape ws) d ms
+    → T (not (badSize (length f) 1)) → T (not (badCell f)) → inTurn op (length f) 1 f d ms ≡ r → CleansAs op ws (planWords d ms) f r
+unfolding shapeTests
+cleans-as op ws d ms f r e P b c t =
+    let S = accepted-shape ws (clear (shapeTests ws) tt e) in
+    let Q = P .plan in
+    let W = length f in
+    record {
+      plans = plans-as ws d ms e P;
+      direct = subst (Direct op W 1 f (Shape ws)) t (turn-direct op W 1 f d ms (Shape ws) (Q .stages) (sum-small ws S d ms Q) (binary f c) (Q .sum));
+      possible = λ i j h k. can-clean op (planWords d ms) W 1 f i j (runs ws S d ms Q W 1 f i j (row-accepted f i j b c h k));
+      handed = λ i j h k s i′ j′ q. agrees ws S d ms Q op W 1 f i j s i′ j′ (row-accepted f i j b c h k) q .turns ∙ t;
+    }
+
+-- ---- the shapes of one row that the frames are cleaned with
+
+threePicked : Picked stage (Shape threeWords) origin (7 ∷ [])
+unfolding shapePoints _+ᵖ_ negᵖ search same stage sumCells cellSums
+threePicked = picked (Shape threeWords) ((0, 0) ∷ (1, 0) ∷ (2, 0) ∷ []) origin (7 ∷ []) (placed (shapePoints threeWords) ((0, 0) ∷ (1, 0) ∷ (2, 0) ∷ []) origin refl tt tt) tt tt tt tt refl
+
+twoPicked : Picked stage (Shape twoWords) origin (3 ∷ [])
+unfolding shapePoints _+ᵖ_ negᵖ search same stage sumCells cellSums
+twoPicked = picked (Shape twoWords) ((0, 0) ∷ (1, 0) ∷ []) origin (3 ∷ []) (placed (shapePoints twoWords) ((0, 0) ∷ (1, 0) ∷ []) origin refl tt tt) tt tt tt tt refl
+
+rightPicked : Picked stage (Shape rightWords) (pos 1, pos 0) []
+unfolding shapePoints _+ᵖ_ negᵖ
+rightPicked = one (pos 1, pos 0) (shapePoints rightWords) refl
+
+-- ---- the statement
+
+pub measured : Measured
+unfolding shapePoints shapeTests _+ᵖ_ negᵖ span wordLines inTurn lastGrid once cells valueAt maskCells
+measured = record {
+  four = plans-as fourWords origin (3 ∷ 5 ∷ []) refl four;
+  four-printed = λ output P. printed-plan fourInput output fourWords (record { words = tt; lines = refl }) P (λ out h. accepts fourWords refl out (omega arith)) origin (3 ∷ 5 ∷ []) four;
+  four-before = four-order;
+  four-other = four-other;
+  cell = plans-as (0x10000000 ∷ 0x20000001 ∷ []) origin [] refl (one origin (shapePoints (0x10000000 ∷ 0x20000001 ∷ [])) refl);
+  corner = plans-as (0x100000ff ∷ 0x20000001 ∷ []) (negsuc 14, negsuc 14) [] refl (one (negsuc 14, negsuc 14) (shapePoints (0x100000ff ∷ 0x20000001 ∷ [])) refl);
+  apart = refused-ten (0x10000000 ∷ 0x20000009 ∷ []) refl apart;
+  gap = refused-ten (0x10000000 ∷ 0x2000000b ∷ []) refl gap;
+  eight = plans-as eightWords origin (17 ∷ 33 ∷ 129 ∷ []) refl eight;
+  eight-points = refl;
+  eight-allowed = refl;
+  closed = cleans-as Closing threeWords origin (7 ∷ []) (1 ∷ 0 ∷ 1 ∷ []) (1 ∷ 1 ∷ 1 ∷ []) refl threePicked tt tt refl;
+  eroded = cleans-as Erosion twoWords origin (3 ∷ []) (1 ∷ 1 ∷ []) (1 ∷ 0 ∷ []) refl twoPicked tt tt refl;
+  eroded-three = cleans-as Erosion twoWords origin (3 ∷ []) (1 ∷ 1 ∷ 0 ∷ []) (1 ∷ 0 ∷ 0 ∷ []) refl twoPicked tt tt refl;
+  eroded-point = cleans-as Erosion rightWords (pos 1, pos 0) [] (1 ∷ 0 ∷ 0 ∷ []) (0 ∷ 0 ∷ 0 ∷ []) refl rightPicked tt tt refl;
+  opened-point = cleans-as Opening rightWords (pos 1, pos 0) [] (1 ∷ 0 ∷ 0 ∷ []) (1 ∷ 0 ∷ 0 ∷ []) refl rightPicked tt tt refl;
+}

@@ -1,0 +1,58 @@
+-- The owner's demands 2 and 3 on planning and cleaning, as types: what follows from the promises of the calls.
+use mathlib.Core.Path.{_≡_}
+use mathlib.Core.Logic.{_⊎_, _↔_}
+use mathlib.Core.List.{List, _++_}
+use Prim.Native.Nat.{ℕ, _+_, _≤_}
+use lib.ListN.{length, take, drop}
+use Rattle.plane.specs.Lists.{In}
+use Rattle.plane.specs.Point.{Point, _≐_, moved}
+use Rattle.words.specs.Ground.{firstOf, stated, result, refusal}
+use Rattle.words.specs.declared.Answer.{Answer}
+use Rattle.masks.specs.Chain.{Chain, Picked, sumOf}
+use Rattle.shapes.specs.Plan.{planPoints, planWords}
+use Rattle.planning.specs.Planning.{Shape, member, permitted, planningTests, Plans}
+use Rattle.cleaning.specs.Operation.{Direct, inTurn}
+use Rattle.cleaning.specs.Cleaning.{workTests, operationTests, stagesRun, part, Cleans}
+use Rattle.cleaning.specs.declared.Operation.{Operation}
+
+-- demand 2: on every accepted plan list and frame, whoever wrote the plan, what is handed back for the number that the operation answered is what
+-- Minkowski's definitions make of the frame and the plan's points, cut to the frame
+abbrev pub Demand2 : Type 0
+Demand2 =
+    (op : Operation) (plan : List ℕ) (W H : ℕ) (f i j : List ℕ) (s : Answer) (i′ j′ : List ℕ)
+    → Cleans op plan W H f i j s i′ j′
+    → firstOf (operationTests plan W H f i j) ≡ 0
+    → Direct op W H f (In (planPoints plan)) (part (stated s .1) W H i′ j′)
+
+-- an operation that was given a plan of m stages with the offset d: it doesn't refuse, it answers the number of stages run, and the part handed back for
+-- that number is, cell for cell, both what the single stages give in turn and what the shape list ws gives directly
+pub record Agrees (op : Operation) (ws : List ℕ) (d : Point) (ms : List ℕ) (W H : ℕ) (f : List ℕ) (s : Answer) (i′ j′ : List ℕ) : Type 0 where
+  pub answer : stated s ≡ result (stagesRun op (length ms))
+  pub turns : part (stated s .1) W H i′ j′ ≡ inTurn op W H f d ms
+  pub direct : Direct op W H f (Shape ws) (part (stated s .1) W H i′ j′)
+
+-- planning wrote a plan: the one that is picked; its stages, moved by its offset, sum to the shape; every list of subsets of the square that sums to it,
+-- with whatever offset, has at least as many members; and on every accepted frame, whatever the work images held, each operation that is given the words
+-- written, as many as the length returned, agrees
+pub record Served (ws out : List ℕ) (r : Answer) (out′ : List ℕ) : Type 0 where
+  pub offset : Point
+  pub stages : List ℕ
+  pub answer : stated r ≡ result (length stages + 2)
+  pub words : out′ ≡ planWords offset stages ++ drop (length stages + 2) out
+  pub picked : Picked permitted (Shape ws) offset stages
+  pub sum : Shape ws ≐ moved offset (In (sumOf stages))
+  pub fewest : (c : Chain member (Shape ws)) → length stages ≤ length (c .members)
+  pub frames : (op : Operation) (W H : ℕ) (f i j : List ℕ) (s : Answer) (i′ j′ : List ℕ)
+      → firstOf (workTests W H f i j) ≡ 0
+      → Cleans op (take (stated r .1) out′) W H f i j s i′ j′
+      → Agrees op ws offset stages W H f s i′ j′
+
+-- planning's answer for an accepted shape: "no chain" exactly when no list of subsets of the square, of any length and with any offset, has the shape as
+-- its sum; otherwise a plan
+pub record Decided (ws out : List ℕ) (r : Answer) (out′ : List ℕ) : Type 0 where
+  pub none : (stated r ≡ refusal 10) ↔ (¬ Chain member (Shape ws))
+  pub plan : (stated r ≡ refusal 10) ⊎ Served ws out r out′
+
+-- demand 3: for every accepted shape
+abbrev pub Demand3 : Type 0
+Demand3 = (ws out : List ℕ) (r : Answer) (out′ : List ℕ) → Plans ws out r out′ → firstOf (planningTests ws out) ≡ 0 → Decided ws out r out′

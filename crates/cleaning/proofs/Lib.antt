@@ -1,0 +1,5 @@
+pub mod Within
+pub mod Turn
+pub mod Grids
+pub mod Plans
+pub mod Kept

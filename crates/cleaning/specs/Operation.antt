@@ -1,0 +1,71 @@
+-- Document 01, "Frames": what a shape gives directly, and what the single stages give in turn.
+use mathlib.Core.Path.{_≡_}
+use mathlib.Core.Logic.{_⊎_}
+use mathlib.Core.Bool.{Bool, true, false}
+use mathlib.Core.List.{List, [], _∷_}
+use Prim.Native.Nat.{ℕ, _+_, _*_, _<_}
+use lib.IntN.{pos}
+use lib.ListN.{length, getD}
+use Rattle.plane.specs.Point.{Point, PointSet, _+ᵖ_, _-ᵖ_, dilation, erosion, opening, closing}
+use Rattle.grids.specs.Image.{cells}
+use Rattle.grids.specs.Frame.{free, frame, occupied}
+use Rattle.grids.specs.Grid.{grid, laid, once}
+use Rattle.cleaning.specs.declared.Operation.{Operation}
+use Rattle.cleaning.specs.declared.Operation.the-variants.{Dilation, Erosion, Opening, Closing}
+
+-- how an operation reads cells outside the frame and outside its grid: as free
+abbrev pub outside : Operation → ℕ
+outside op = free
+
+-- the frame on the plane, as the operation's call reads it
+abbrev pub asRead : Operation → ℕ → ℕ → List ℕ → Point → ℕ
+asRead op W H f = frame (outside op) W H f
+
+-- ---- directly
+
+-- the set that an operation makes of X and A
+abbrev pub made : Operation → PointSet → PointSet → PointSet
+made Dilation X A = dilation X A
+made Erosion X A = erosion X A
+made Opening X A = opening X A
+made Closing X A = closing X A
+
+-- a cell's value is 1 if P, and 0 if not
+abbrev pub Says : ℕ → Type 0 → Type 0
+Says v P = ((v ≡ 1) × P) ⊎ ((v ≡ 0) × ¬ P)
+
+-- what the shape with the points A gives directly, as W × H cells r: X is the set of points whose cell reads as occupied in the operation's call, and
+-- cell (x, y) is 1 if (x, y) lies in the set that the operation makes of X and A, and 0 if not
+pub record Direct (op : Operation) (W H : ℕ) (f : List ℕ) (A : PointSet) (r : List ℕ) : Type 0 where
+  pub size : length r ≡ W * H
+  pub cell : (x y : ℕ) → x < W → y < H → Says (getD r (y * W + x) 0) (made op (occupied (asRead op W H f)) A (pos x, pos y))
+
+-- ---- in turn
+
+-- a grid taken through one single stage for each mask, in order
+abbrev pub through : (ℕ → List ℕ → List ℕ) → List ℕ → List ℕ → List ℕ
+through stage [] g = g
+through stage (m ∷ ms) g = through stage ms (stage m g)
+
+-- through all the stages by dilation, or by erosion
+abbrev pub allOnce : Bool → Operation → ℕ → ℕ → List ℕ → List ℕ → List ℕ
+allOnce erode op W H ms g = through (once erode (outside op) W H) ms g
+
+-- the last grid: by dilation, by erosion, for opening by erosion and then through all of them again by dilation, for closing the other way round
+unfoldable pub lastGrid : Operation → ℕ → ℕ → List ℕ → List ℕ → List ℕ
+lastGrid Dilation W H ms g = allOnce false Dilation W H ms g
+lastGrid Erosion W H ms g = allOnce true Erosion W H ms g
+lastGrid Opening W H ms g = allOnce false Opening W H ms (allOnce true Opening W H ms g)
+lastGrid Closing W H ms g = allOnce true Closing W H ms (allOnce false Closing W H ms g)
+
+-- where the result's cell p is read in the last grid: (x − dx, y − dy) for dilation, (x + dx, y + dy) for erosion, (x, y) for opening and closing
+abbrev pub readAt : Operation → Point → Point → Point
+readAt Dilation d p = p -ᵖ d
+readAt Erosion d p = p +ᵖ d
+readAt Opening d p = p
+readAt Closing d p = p
+
+-- what the single stages ms give in turn with the offset d, as W × H cells: the frame, as the operation reads it, is put into a grid, the grid is taken
+-- through the stages, and the result is read there; outside the grid it reads as plane cells there do
+unfoldable pub inTurn : Operation → ℕ → ℕ → List ℕ → Point → List ℕ → List ℕ
+inTurn op W H f d ms = cells W H (λ p. grid (outside op) W H (lastGrid op W H ms (laid W H (asRead op W H f))) (readAt op d p))

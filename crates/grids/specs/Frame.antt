@@ -1,0 +1,70 @@
+-- Document 01, "Frames": the values of cells, frames, grounds 11 to 14, and the load.
+use mathlib.Core.Path.{_≡_}
+use mathlib.Core.Bool.{Bool, not, _||_}
+use mathlib.Core.List.{List, [], _∷_}
+use Prim.Native.Nat.{ℕ, _+_, _*_, min, max}
+use lib.Dec.{ltb, eqb}
+use lib.ListN.{length}
+use Rattle.plane.specs.Lists.{any, keep}
+use Rattle.plane.specs.Point.{Point, PointSet}
+use Rattle.words.specs.Ground.{Test, stated, result, Answers}
+use Rattle.words.specs.declared.Answer.{Answer}
+use Rattle.grids.specs.Image.{view}
+
+-- one byte a cell: 0 free, 1 occupied; free is the least value and full the greatest
+abbrev pub free : ℕ
+free = 0
+
+abbrev pub full : ℕ
+full = 1
+
+-- the greater and the lesser of two values
+abbrev pub greater : ℕ → ℕ → ℕ
+greater = max
+
+abbrev pub lesser : ℕ → ℕ → ℕ
+lesser = min
+
+-- W columns and H rows of cells on the plane, row 0 first, with the value v outside
+abbrev pub frame : ℕ → ℕ → ℕ → List ℕ → Point → ℕ
+frame v W H f = view v W H f
+
+-- the points whose cell, inside the frame or outside it, reads as occupied
+abbrev pub occupied : (Point → ℕ) → PointSet
+occupied f p = f p ≡ full
+
+-- ---- grounds
+
+-- ground 11: W or H isn't 1 to 240
+abbrev pub badSide : ℕ → Bool
+badSide n = eqb n 0 || ltb 240 n
+
+abbrev pub badSize : ℕ → ℕ → Bool
+badSize W H = badSide W || badSide H
+
+-- ground 12: the frame's length isn't W × H
+abbrev pub wrongLength : ℕ → ℕ → List ℕ → Bool
+wrongLength W H f = not (eqb (length f) (W * H))
+
+-- ground 13: a cell is above 1
+abbrev pub badCell : List ℕ → Bool
+badCell f = any (ltb full) f
+
+-- ground 14: a work image is shorter than (W + 15) × (H + 15)
+abbrev pub gridSize : ℕ → ℕ → ℕ
+gridSize W H = (W + 15) * (H + 15)
+
+abbrev pub shortImage : ℕ → ℕ → List ℕ → Bool
+shortImage W H i = ltb (length i) (gridSize W H)
+
+-- a frame: grounds 11 to 13
+unfoldable pub frameTests : ℕ → ℕ → List ℕ → List Test
+frameTests W H f = (11, badSize W H) ∷ (12, wrongLength W H f) ∷ (13, badCell f) ∷ []
+
+-- ---- the load: the number of occupied cells in a frame
+
+unfoldable pub load : List ℕ → ℕ
+load f = length (keep (λ v. eqb v full) f)
+
+abbrev pub Loads : ℕ → ℕ → List ℕ → Answer → Type 0
+Loads W H f r = Answers (frameTests W H f) r (Unit {0}) (stated r ≡ result (load f))

@@ -1,0 +1,63 @@
+-- Document 01, "Frames": grids, putting a frame into one, and the single stage by dilation or erosion.
+use mathlib.Core.Path.{_≡_}
+use mathlib.Core.Bool.{Bool, true, false, not, _||_}
+use mathlib.Core.List.{List, [], _∷_, _++_}
+use Prim.Native.Nat.{ℕ, _+_}
+use lib.ListN.{take, drop}
+use Rattle.plane.specs.Point.{Point}
+use Rattle.words.specs.Ground.{Test, stated, result, Answers}
+use Rattle.words.specs.Word.{wrongKind, extraBit, stageKind, stageMask}
+use Rattle.words.specs.declared.Answer.{Answer}
+use Rattle.masks.specs.Mask.{maskPoints, stage}
+use Rattle.grids.specs.Image.{view, cells, dilated, eroded}
+use Rattle.grids.specs.Frame.{free, full, greater, lesser, frame, badSize, wrongLength, badCell, shortImage, gridSize}
+
+-- a grid is the first (W + 15) × (H + 15) bytes of a work image, row by row, x and y from 0; v is the value of plane cells outside it
+abbrev pub grid : ℕ → ℕ → ℕ → List ℕ → Point → ℕ
+grid v W H g = view v (W + 15) (H + 15) g
+
+-- a picture cut to the grid
+abbrev pub laid : ℕ → ℕ → (Point → ℕ) → List ℕ
+laid W H f = cells (W + 15) (H + 15) f
+
+-- a frame put into a grid, with the rest of the grid 0
+unfoldable pub put : ℕ → ℕ → List ℕ → List ℕ
+put W H f = laid W H (frame free W H f)
+
+-- a grid taken through the single stage of the mask m, by erosion or by dilation, cut to the grid
+unfoldable pub once : Bool → ℕ → ℕ → ℕ → ℕ → List ℕ → List ℕ
+once true v W H m g = laid W H (eroded lesser full (maskPoints m) (grid v W H g))
+once false v W H m g = laid W H (dilated greater free (maskPoints m) (grid v W H g))
+
+-- an image whose grid is written: bytes past the grid are unchanged
+abbrev pub written : ℕ → ℕ → List ℕ → List ℕ → List ℕ
+written W H g i = g ++ drop (gridSize W H) i
+
+-- ---- what the calls promise
+
+-- putting a frame into a grid: grounds 11 to 14
+unfoldable pub putTests : ℕ → ℕ → List ℕ → List ℕ → List Test
+putTests W H f i = (11, badSize W H) ∷ (12, wrongLength W H f) ∷ (13, badCell f) ∷ (14, shortImage W H i) ∷ []
+
+-- a single stage, of a stage word and two images: grounds 2, 3, 7, 11, 13 over the grid read as far as its image goes, and 14 over both images
+unfoldable pub stageTests : ℕ → ℕ → ℕ → List ℕ → List ℕ → List Test
+stageTests w W H g i =
+    (2, wrongKind stageKind w)
+    ∷ (3, extraBit stageKind w)
+    ∷ (7, not (stage (stageMask w)))
+    ∷ (11, badSize W H)
+    ∷ (13, badCell (take (gridSize W H) g))
+    ∷ (14, shortImage W H g || shortImage W H i)
+    ∷ []
+
+-- the grid g was written into the image i, which then is i′; the result has nothing to say and is 0
+pub record GridWritten (W H : ℕ) (g i : List ℕ) (r : Answer) (i′ : List ℕ) : Type 0 where
+  pub answer : stated r ≡ result 0
+  pub image : i′ ≡ written W H g i
+
+abbrev pub Puts : ℕ → ℕ → List ℕ → List ℕ → Answer → List ℕ → Type 0
+Puts W H f i r i′ = Answers (putTests W H f i) r (i′ ≡ i) (GridWritten W H (put W H f) i r i′)
+
+-- the image read, g, is lent for reading alone
+abbrev pub Stages : Bool → ℕ → ℕ → ℕ → List ℕ → List ℕ → Answer → List ℕ → Type 0
+Stages erode w W H g i r i′ = Answers (stageTests w W H g i) r (i′ ≡ i) (GridWritten W H (once erode free W H (stageMask w) g) i r i′)

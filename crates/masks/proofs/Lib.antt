@@ -1,0 +1,10 @@
+pub mod Sum
+pub mod Cells
+pub mod Normal
+pub mod Reduce
+pub mod Order
+pub mod Search
+pub mod Placed
+pub mod Bounds
+pub mod Entries
+pub mod Examples

@@ -1,0 +1,87 @@
+-- The order that picks: it is strict and total on lists of stages, so two plans that are both picked have the same stages.
+use mathlib.Core.Path.{_≡_, refl, sym, ap₂}
+use mathlib.Core.Logic.{_⊎_, inl, inr}
+use mathlib.Core.Bool.{Bool, true, false, not, _&&_, _||_}
+use mathlib.Core.List.{List, [], _∷_}
+use Prim.Native.Nat.{ℕ, suc, _≤_, _<_}
+use native.Mathlib.Omega.{arith}
+use lib.Dec.{T, ltb, eqb, eqb→eq, ltb→lt, nltb→le, T-not, not-T}
+use lib.ListN.{length}
+use Rattle.plane.specs.Point.{Point, PointSet}
+use Rattle.plane.proofs.Tests.{not-or, T-and, T-or, eq-eqb, not-ltb}
+use Rattle.masks.specs.Chain.{smaller, before, Picked}
+
+-- not smaller either way: the same, for lists of one length
+same-length : (ms ns : List ℕ) → length ms ≡ length ns → T (not (smaller ms ns)) → T (not (smaller ns ms)) → ms ≡ ns
+same-length [] [] e t u = refl
+same-length [] (b ∷ ns) e t u = absurd (let z : 0 ≡ suc (length ns) = e in omega arith)
+same-length (a ∷ ms) [] e t u = absurd (let z : suc (length ms) ≡ 0 = e in omega arith)
+same-length (a ∷ ms) (b ∷ ns) e t u =
+    let v = not-or (ltb a b) (eqb a b && smaller ms ns) .0 t in
+    let w = not-or (ltb b a) (eqb b a && smaller ns ms) .0 u in
+    let h = nltb→le a b (v .0) in
+    let k = nltb→le b a (w .0) in
+    let q : a ≡ b = omega arith in
+    let l : length ms ≡ length ns = (let z : suc (length ms) ≡ suc (length ns) = e in omega arith) in
+    ap₂ (λ x xs. x ∷ xs) q (same-length ms ns l (rest a b (smaller ms ns) q (v .1)) (rest b a (smaller ns ms) (sym q) (w .1)))
+  where
+    rest : (a b : ℕ) (s : Bool) → a ≡ b → T (not (eqb a b && s)) → T (not s)
+    rest a b s q t = not-T s (λ r. T-not (eqb a b && s) t (T-and (eqb a b) s .1 (eq-eqb q, r)))
+
+-- what does not come before ms has at least as many stages
+pub no-fewer : (ms ns : List ℕ) → T (not (before ns ms)) → length ms ≤ length ns
+no-fewer ms ns t = nltb→le (length ns) (length ms) (not-or (ltb (length ns) (length ms)) (eqb (length ns) (length ms) && smaller ns ms) .0 t .0)
+
+neither : (ms ns : List ℕ) → T (not (before ms ns)) → T (not (before ns ms)) → ms ≡ ns
+neither ms ns t u =
+    let h = no-fewer ns ms t in
+    let k = no-fewer ms ns u in
+    let e : length ms ≡ length ns = omega arith in
+    same-length ms ns e (tie ms ns e t) (tie ns ms (sym e) u)
+  where
+    tie : (ms ns : List ℕ) → length ms ≡ length ns → T (not (before ms ns)) → T (not (smaller ms ns))
+    tie ms ns e t =
+        not-T (smaller ms ns) (λ s. T-not (eqb (length ms) (length ns) && smaller ms ns) (not-or (ltb (length ms) (length ns)) (eqb (length ms) (length ns) && smaller ms ns) .0 t .1)
+        (T-and (eqb (length ms) (length ns)) (smaller ms ns) .1 (eq-eqb e, s)))
+
+-- the plan that is written is one
+pub picked-once : (permitted : ℕ → Bool) (S : PointSet) (d e : Point) (ms ns : List ℕ) → Picked permitted S d ms → Picked permitted S e ns → ms ≡ ns
+picked-once permitted S d e ms ns p q = neither ms ns (q .first d ms (p .plan)) (p .first e ns (q .plan))
+
+-- ---- how a search shows it
+
+-- of two lists of one length: the same, or smaller at the first difference
+abbrev pub notAbove : List ℕ → List ℕ → Bool
+notAbove [] ns = true
+notAbove (a ∷ ms) [] = false
+notAbove (a ∷ ms) (b ∷ ns) = ltb a b || eqb a b && notAbove ms ns
+
+not-smaller : (ms ns : List ℕ) → T (notAbove ms ns) → T (not (smaller ns ms))
+not-smaller [] [] t = tt
+not-smaller [] (b ∷ ns) t = tt
+not-smaller (a ∷ ms) [] t = absurd t
+not-smaller (a ∷ ms) (b ∷ ns) t = go (T-or (ltb a b) (eqb a b && notAbove ms ns) .0 t) (not-smaller ms ns)
+  where
+    no-and : (s r : Bool) → (T s → T (not r)) → T (not (s && r))
+    no-and true r f = f tt
+    no-and false r f = tt
+
+    go : T (ltb a b) ⊎ T (eqb a b && notAbove ms ns) → (T (notAbove ms ns) → T (not (smaller ns ms))) → T (not (ltb b a || eqb b a && smaller ns ms))
+    go (inl l) ih =
+        let h = ltb→lt a b l in
+        not-or (ltb b a) (eqb b a && smaller ns ms) .1 (not-ltb b a (omega arith), no-and (eqb b a) (smaller ns ms) (λ e. absurd (let q = eqb→eq b a e in omega arith)))
+    go (inr r) ih =
+        let u = T-and (eqb a b) (notAbove ms ns) .0 r in
+        let q = eqb→eq a b (u .0) in
+        not-or (ltb b a) (eqb b a && smaller ns ms) .1 (not-ltb b a (omega arith), no-and (eqb b a) (smaller ns ms) (λ _. ih (u .1)))
+
+-- a longer list does not come before, nor does one that is above
+pub not-before-longer : (ms ns : List ℕ) → length ms < length ns → T (not (before ns ms))
+not-before-longer ms ns h =
+    not-or (ltb (length ns) (length ms)) (eqb (length ns) (length ms) && smaller ns ms) .1
+    (not-ltb (length ns) (length ms) (omega arith), not-T (eqb (length ns) (length ms) && smaller ns ms) (λ t. let e = eqb→eq (length ns) (length ms) (T-and (eqb (length ns) (length ms)) (smaller ns ms) .0 t .0) in omega arith))
+
+pub not-before-above : (ms ns : List ℕ) → length ms ≡ length ns → T (notAbove ms ns) → T (not (before ns ms))
+not-before-above ms ns e t =
+    not-or (ltb (length ns) (length ms)) (eqb (length ns) (length ms) && smaller ns ms) .1
+    (not-ltb (length ns) (length ms) (omega arith), not-T (eqb (length ns) (length ms) && smaller ns ms) (λ u. T-not (smaller ns ms) (not-smaller ms ns t) (T-and (eqb (length ns) (length ms)) (smaller ns ms) .0 u .1)))

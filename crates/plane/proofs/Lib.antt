@@ -1,0 +1,5 @@
+pub mod Tests
+pub mod Algebra
+pub mod Member
+pub mod Integer
+pub mod Extents

@@ -1,0 +1,58 @@
+-- Tests that are computed: what it says that one holds, or does not.
+use mathlib.Core.Path.{_≡_, refl, subst}
+use mathlib.Core.Logic.{_↔_, _⊎_, inl, inr}
+use mathlib.Core.Bool.{Bool, true, false, not, cond, _&&_, _||_}
+use Prim.Native.Nat.{ℕ, _≤_, _<_}
+use native.Mathlib.Omega.{arith}
+use lib.Dec.{T, leb, ltb, eqb, eqb-refl, leb→le, ltb→lt, not-T}
+
+pub T-and : (a b : Bool) → T (a && b) ↔ (T a × T b)
+T-and true b = (λ t. (tt, t), λ t. t .1)
+T-and false b = (λ t. absurd t, λ t. t .0)
+
+pub T-or : (a b : Bool) → T (a || b) ↔ (T a ⊎ T b)
+T-or true b = (λ t. inl tt, λ t. tt)
+T-or false b = (λ t. inr t, pick)
+  where
+    pick : ⊥ ⊎ T b → T b
+    pick (inl f) = absurd f
+    pick (inr t) = t
+
+pub T-dec : (b : Bool) → T b ⊎ T (not b)
+T-dec true = inl tt
+T-dec false = inr tt
+
+pub not-or : (a b : Bool) → T (not (a || b)) ↔ (T (not a) × T (not b))
+not-or true b = (λ t. absurd t, λ t. t .0)
+not-or false b = (λ t. (tt, t), λ t. t .1)
+
+pub not-not : (b : Bool) → T b → T (not (not b))
+not-not true t = tt
+not-not false t = t
+
+-- a test and its failure
+pub clash : (b : Bool) → T (not b) → T b → ⊥
+clash true p q = p
+clash false p q = q
+
+pub T-true : (b : Bool) → T b → b ≡ true
+T-true true t = refl
+T-true false t = absurd t
+
+pub T-false : (b : Bool) → T (not b) → b ≡ false
+T-false true t = absurd t
+T-false false t = refl
+
+-- what holds in both arms of a choice
+pub cond-ind : {A : Type 0} (b : Bool) (x y : A) (P : A → Type 0) → (T b → P x) → (T (not b) → P y) → P (cond b x y)
+cond-ind true x y P f g = f tt
+cond-ind false x y P f g = g tt
+
+pub eq-eqb : {m n : ℕ} → m ≡ n → T (eqb m n)
+eq-eqb {m} {n} e = subst (λ k. T (eqb m k)) e (eqb-refl m)
+
+pub not-leb : (m n : ℕ) → n < m → T (not (leb m n))
+not-leb m n h = not-T (leb m n) (λ t. let k = leb→le m n t in omega arith)
+
+pub not-ltb : (m n : ℕ) → n ≤ m → T (not (ltb m n))
+not-ltb m n h = not-T (ltb m n) (λ t. let k = ltb→lt m n t in omega arith)

@@ -1,0 +1,32 @@
+-- What is printed for the lines of a shape list whose plan is known, or that has no chain.
+use mathlib.Core.Path.{_≡_, _∙_, ap}
+use mathlib.Core.List.{List}
+use Prim.Native.Nat.{ℕ}
+use lib.ListN.{length}
+use Rattle.plane.specs.Point.{Point}
+use Rattle.words.specs.Ground.{firstOf}
+use Rattle.masks.specs.Chain.{Chain, subset, Picked}
+use Rattle.masks.specs.Mask.{stage}
+use Rattle.shapes.specs.Plan.{planWords}
+use Rattle.planning.specs.Planning.{planningTests, Shape}
+use Rattle.planning.specs.Printer.{wordLines, Reads, Prints, Printing, shown, refusedLine}
+use Rattle.planning.proofs.Decided.{planned, unplanned, written-words, accepted}
+
+module _ (input output ws : List ℕ) (R : Reads input ws) (P : Prints input output) (ok : (out : List ℕ) → length out ≡ 32 → firstOf (planningTests ws out) ≡ 0) where
+  printing : Printing ws output
+  printing = P .readable ws R
+
+  -- the plan, a line a word
+  pub printed-plan : (d : Point) (ms : List ℕ) → Picked stage (Shape ws) d ms → output ≡ wordLines (planWords d ms)
+  printed-plan d ms k =
+      let q = printing in
+      let e = ok (q .out) (q .room) in
+      let r = planned ws (q .out) e (q .answer) (q .out′) (q .plans) d ms k in
+      q .prints ∙ ap (λ s. shown s (q .out′)) (r .0) ∙ ap wordLines (written-words ws (q .out) (q .out′) (accepted ws (q .out) e) d ms (k .plan) (r .1))
+
+  -- the refusal
+  pub printed-none : ¬ Chain subset (Shape ws) → output ≡ refusedLine 10
+  printed-none none =
+      let q = printing in
+      let r = unplanned ws (q .out) (ok (q .out) (q .room)) (q .answer) (q .out′) (q .plans) none in
+      q .prints ∙ ap (λ s. shown s (q .out′)) (r .0)

@@ -1,0 +1,91 @@
+-- The bits of a packed row, and of the row word that holds it.
+use mathlib.Core.Path.{_≡_, refl, sym, _∙_, ap, subst}
+use mathlib.Core.Logic.{_↔_}
+use mathlib.Core.Bool.{Bool, true, false, cond}
+use Prim.Native.Nat.{ℕ, zero, suc, _+_, _*_, _/_, _%_, _^_, _<_}
+use native.Mathlib.Omega.{arith}
+use native.Mathlib.Nat.{pow-succ', div-div-eq-div-mul, add-suc, suc-add, le-of-suc-le-suc, not-suc-le-zero, add-zero, mul-assoc}
+use lib.Dec.{T, eqb, eqb→eq}
+use Rattle.plane.specs.Lists.{In, upTo}
+use Rattle.plane.proofs.Member.{In-keep, upTo-In, In-upTo}
+use Rattle.plane.proofs.Tests.{eq-eqb}
+use Rattle.words.specs.Word.{rowColumns, rowWord}
+use Rattle.shapes.specs.Listed.{packed}
+
+-- one bit more below
+half : (c : Bool) (r : ℕ) → (cond c 1 0 + 2 * r) / 2 ≡ r
+half true r = omega arith
+half false r = omega arith
+
+low : (c : Bool) (r : ℕ) → (cond c 1 0 + 2 * r) / 1 % 2 ≡ cond c 1 0
+low true r = omega arith
+low false r = omega arith
+
+halves : (x i : ℕ) → x / 2 ^ suc i ≡ x / 2 / 2 ^ i
+halves x i = ap (λ m. x / m) (pow-succ' 2 i) ∙ sym (div-div-eq-div-mul x 2 (2 ^ i))
+
+pub packed-digit : (b : ℕ → Bool) (i k n : ℕ) → i < n → packed b k n / 2 ^ i % 2 ≡ cond (b (k + i)) 1 0
+unfolding packed
+packed-digit b i k zero h = absurd (not-suc-le-zero h)
+packed-digit b zero k (suc n) h = low (b k) (packed b (suc k) n) ∙ ap (λ j. cond (b j) 1 0) (sym (add-zero k))
+packed-digit b (suc i) k (suc n) h =
+    ap (λ m. m % 2) (halves (cond (b k) 1 0 + 2 * packed b (suc k) n) i) ∙ ap (λ m. m / 2 ^ i % 2) (half (b k) (packed b (suc k) n))
+    ∙ packed-digit b i (suc k) n (le-of-suc-le-suc h) ∙ ap (λ j. cond (b j) 1 0) (suc-add k i ∙ sym (add-suc k i))
+
+pub packed-below : (b : ℕ → Bool) (k n : ℕ) → packed b k n < 2 ^ n
+unfolding packed
+packed-below b k zero = omega arith
+packed-below b k (suc n) = subst (λ m. packed b k (suc n) < m) (sym (pow-succ' 2 n)) (next (b k) (packed b (suc k) n) (2 ^ n) (packed-below b (suc k) n))
+  where
+    next : (c : Bool) (r m : ℕ) → r < m → cond c 1 0 + 2 * r < 2 * m
+    next true r m h = omega arith
+    next false r m h = omega arith
+
+even : (n q : ℕ) → 2 ^ suc n * q ≡ 2 * (2 ^ n * q)
+even n q = ap (λ m. m * q) (pow-succ' 2 n) ∙ mul-assoc 2 (2 ^ n) q
+
+-- what stands above the lowest n bits does not change them
+above : (n i q c : ℕ) → i < n → (2 ^ n * q + c) / 2 ^ i % 2 ≡ c / 2 ^ i % 2
+above zero i q c h = absurd (not-suc-le-zero h)
+above (suc n) zero q c h = ap (λ m. (m + c) / 1 % 2) (even n q) ∙ flat0 (2 ^ n * q) c
+  where
+    flat0 : (x c : ℕ) → (2 * x + c) / 1 % 2 ≡ c / 1 % 2
+    flat0 x c = omega arith
+above (suc n) (suc i) q c h =
+    ap (λ m. m % 2) (halves (2 ^ suc n * q + c) i) ∙ ap (λ m. (m + c) / 2 / 2 ^ i % 2) (even n q) ∙ ap (λ m. m / 2 ^ i % 2) (split (2 ^ n * q) c)
+    ∙ above n i q (c / 2) (le-of-suc-le-suc h) ∙ ap (λ m. m % 2) (sym (halves c i))
+  where
+    split : (x c : ℕ) → (2 * x + c) / 2 ≡ x + c / 2
+    split x c = omega arith
+
+one-true : (c : Bool) → _≡_ {A = ℕ} (cond c 1 0) 1 → T c
+one-true true e = tt
+one-true false e = absurd (let z : 0 ≡ 1 = e in omega arith)
+
+true-one : (c : Bool) → T c → _≡_ {A = ℕ} (cond c 1 0) 1
+true-one true t = refl
+true-one false t = absurd t
+
+-- the columns of a row word are the bits that it was packed from
+pub row-columns : (b : ℕ → Bool) (y x : ℕ) → In (rowColumns (rowWord y (packed b 0 16))) x ↔ ((x < 16) × T (b x))
+row-columns b y x = (
+  λ h. let r = In-keep set (upTo 16) x .0 h in
+      let l = upTo-In 16 x (r .0) in
+      (l, one-true (b x) (sym (digit l) ∙ eqb→eq (w / 2 ^ x % 2) 1 (r .1))),
+  λ h. In-keep set (upTo 16) x .1 (In-upTo 16 x (h .0), eq-eqb (digit (h .0) ∙ true-one (b x) (h .1))),
+)
+  where
+    c : ℕ
+    c = packed b 0 16
+
+    w : ℕ
+    w = rowWord y c
+
+    set : ℕ → Bool
+    set k = eqb (w / 2 ^ k % 2) 1
+
+    top : (y c : ℕ) → rowWord y c ≡ 65536 * (8192 + y) + c
+    top y c = omega arith
+
+    digit : x < 16 → w / 2 ^ x % 2 ≡ cond (b x) 1 0
+    digit l = ap (λ m. m / 2 ^ x % 2) (top y c) ∙ above 16 x (8192 + y) c l ∙ packed-digit b x 0 16 l ∙ ap (λ j. cond (b j) 1 0) (omega arith)

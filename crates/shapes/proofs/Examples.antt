@@ -1,0 +1,108 @@
+-- Worked cases of shape and plan lists: which ground comes first, where the bounds lie, and how lists are written.
+use mathlib.Core.Path.{_≡_, refl}
+use mathlib.Core.List.{[], _∷_, map}
+use Prim.Native.Nat.{_+_, _*_}
+use lib.IntN.{pos}
+use lib.ListN.{replicate}
+use Rattle.plane.specs.Lists.{upTo}
+use Rattle.plane.specs.Point.{_+ᵖ_, negᵖ}
+use Rattle.words.specs.Ground.{firstOf, both}
+use Rattle.masks.specs.Chain.{sums}
+use Rattle.shapes.specs.Calls.{movedPoints}
+use Rattle.shapes.specs.Listed.{listed}
+use Rattle.shapes.specs.Plan.{planTests, planPoints}
+use Rattle.shapes.specs.Shape.{shapeTests, shapePoints}
+
+-- ---- shape lists: grounds 1 to 4, the first that holds over the whole list
+
+short : firstOf (shapeTests (0x10000000 ∷ [])) ≡ 1
+unfolding shapeTests
+short = refl
+
+-- 17 words pass ground 1, 18 do not
+seventeen : firstOf (shapeTests (0x10000000 ∷ map (λ y. 0x20000001 + y * 65536) (upTo 16))) ≡ 0
+unfolding shapeTests
+seventeen = refl
+
+eighteen : firstOf (shapeTests (0x10000000 ∷ map (λ y. 0x20000001 + y * 65536) (upTo 17))) ≡ 1
+unfolding shapeTests
+eighteen = refl
+
+-- a wrong kind late in the list comes before an extra bit early in it
+kind-first : firstOf (shapeTests (0x11000000 ∷ 0x20000001 ∷ 0x30000001 ∷ [])) ≡ 2
+unfolding shapeTests
+kind-first = refl
+
+-- an extra bit comes before a row with no column
+bit-first : firstOf (shapeTests (0x10000100 ∷ 0x20000000 ∷ [])) ≡ 3
+unfolding shapeTests
+bit-first = refl
+
+-- a row's y is above the row before, not equal to it
+rows-rise : firstOf (shapeTests (0x10000000 ∷ 0x20000001 ∷ 0x20000001 ∷ [])) ≡ 4
+unfolding shapeTests
+rows-rise = refl
+
+-- two lists: the second's ground 2 comes before the first's ground 3
+both-lists : firstOf (both (shapeTests (0x10000100 ∷ 0x20000001 ∷ [])) (shapeTests (0x10000000 ∷ 0x30000001 ∷ []))) ≡ 2
+unfolding shapeTests
+both-lists = refl
+
+-- ---- plan lists: grounds 1 to 3 and 5 to 8
+
+-- a wrong count comes before a place field of 31
+count-first : firstOf (planTests (0x30000003 ∷ 0x40001f0f ∷ 0x50000003 ∷ [])) ≡ 5
+unfolding planTests
+count-first = refl
+
+-- place 30 passes; 31 gives 6, before the mask of one cell
+place-30 : firstOf (planTests (0x30000000 ∷ 0x40001e1e ∷ [])) ≡ 0
+unfolding planTests _+ᵖ_
+place-30 = refl
+
+place-31 : firstOf (planTests (0x30000001 ∷ 0x40001f0f ∷ 0x50000001 ∷ [])) ≡ 6
+unfolding planTests
+place-31 = refl
+
+-- masks never fall, and may be equal
+masks-fall : firstOf (planTests (0x30000002 ∷ 0x40000f0f ∷ 0x50000005 ∷ 0x50000003 ∷ [])) ≡ 7
+unfolding planTests
+masks-fall = refl
+
+-- seven stages of extent 2 pass with w = 14, eight give 8 with w = 16
+fourteen : firstOf (planTests (0x30000007 ∷ 0x40000f0f ∷ replicate 7 0x50000005)) ≡ 0
+unfolding planTests _+ᵖ_
+fourteen = refl
+
+sixteen : firstOf (planTests (0x30000008 ∷ 0x40000f0f ∷ replicate 8 0x50000005)) ≡ 8
+unfolding planTests _+ᵖ_
+sixteen = refl
+
+-- with the offset 2 an x of 16 is reached
+too-far : firstOf (planTests (0x30000007 ∷ 0x40000f11 ∷ replicate 7 0x50000005)) ≡ 8
+unfolding planTests _+ᵖ_
+too-far = refl
+
+-- ---- lists that are written
+
+-- with the least anchor
+corner-listed : listed (shapePoints (0x100000ff ∷ 0x20000001 ∷ 0x20010006 ∷ [])) ≡ (0x100000ff ∷ 0x20000001 ∷ 0x20010006 ∷ [])
+unfolding listed shapePoints _+ᵖ_ negᵖ
+corner-listed = refl
+
+anchor-least : listed (shapePoints (0x10000022 ∷ 0x20030008 ∷ [])) ≡ (0x10000000 ∷ 0x20010002 ∷ [])
+unfolding listed shapePoints _+ᵖ_ negᵖ
+anchor-least = refl
+
+moved-listed : listed (movedPoints (pos 2, pos 3) (shapePoints (0x10000000 ∷ 0x20000005 ∷ []))) ≡ (0x10000000 ∷ 0x20030014 ∷ [])
+unfolding listed shapePoints _+ᵖ_ negᵖ
+moved-listed = refl
+
+summed-listed : listed (sums (shapePoints (0x10000001 ∷ 0x20000005 ∷ [])) (shapePoints (0x10000000 ∷ 0x20000001 ∷ 0x20020001 ∷ []))) ≡ (0x10000001 ∷ 0x20000005 ∷ 0x20020005 ∷ [])
+unfolding listed shapePoints _+ᵖ_ negᵖ
+summed-listed = refl
+
+-- a plan turned back: stages 3 and 5 at the offset (−1, 2)
+plan-listed : listed (planPoints (0x30000002 ∷ 0x4000110e ∷ 0x50000003 ∷ 0x50000005 ∷ [])) ≡ (0x10000001 ∷ 0x2002000f ∷ [])
+unfolding listed planPoints _+ᵖ_ negᵖ
+plan-listed = refl

@@ -1,0 +1,4 @@
+pub mod Shape
+pub mod Plan
+pub mod Listed
+pub mod Calls

@@ -1,0 +1,111 @@
+-- Numbered tests of which none holds; and that what an answer says is the whole answer.
+use mathlib.Core.Path.{_≡_, refl, sym, _∙_, ap}
+use mathlib.Core.Bool.{Bool, true, false, not, cond}
+use mathlib.Core.List.{List, [], _∷_, _++_}
+use Prim.Native.Nat.{ℕ}
+use native.Mathlib.Omega.{arith}
+use lib.Dec.{T, ltb, eqb, ltb→lt}
+use Rattle.plane.specs.Lists.{all}
+use Rattle.plane.proofs.Tests.{T-and}
+use Rattle.words.specs.Ground.{Test, firstOf, numberOf, stated, result, refusal}
+use Rattle.words.specs.declared.Ground.{Ground}
+use Rattle.words.specs.declared.Ground.the-variants.{ListLength, WordKind, ExtraBit, RowOrder, StageCount, PlaceField, StageMask, OutOfRange, OutputLength, NoChain, FrameSize, FrameLength, CellValue, ImageLength}
+use Rattle.words.specs.declared.Answer.{Answer}
+use Rattle.words.specs.declared.Answer.the-variants.{Done, Refused}
+
+-- ---- tests that fail
+
+-- every test of a list fails
+abbrev pub Clear : List Test → Type 0
+Clear [] = Unit {0}
+Clear (t ∷ ts) = T (not (t .1)) × Clear ts
+
+-- no test has the number 0
+abbrev pub numbered : List Test → Bool
+numbered ts = all (λ t. ltb 0 (t .0)) ts
+
+pub clear : (ts : List Test) → T (numbered ts) → firstOf ts ≡ 0 → Clear ts
+clear [] n e = tt
+clear (t ∷ ts) n e = go (t .1) (T-and (ltb 0 (t .0)) (numbered ts) .0 n) (clear ts) e
+  where
+    go : (b : Bool) → T (ltb 0 (t .0)) × T (numbered ts) → (T (numbered ts) → firstOf ts ≡ 0 → Clear ts) → cond b (t .0) (firstOf ts) ≡ 0 → T (not b) × Clear ts
+    go true u ih e = absurd (let l = ltb→lt 0 (t .0) (u .0) in omega arith)
+    go false u ih e = (tt, ih (u .1) e)
+
+pub unclear : (ts : List Test) → Clear ts → firstOf ts ≡ 0
+unclear [] c = refl
+unclear (t ∷ ts) c = go (t .1) (c .0) (unclear ts (c .1))
+  where
+    go : (b : Bool) → T (not b) → firstOf ts ≡ 0 → cond b (t .0) (firstOf ts) ≡ 0
+    go true n e = absurd n
+    go false n e = e
+
+pub clear-append : (ts us : List Test) → Clear ts → Clear us → Clear (ts ++ us)
+clear-append [] us c d = d
+clear-append (t ∷ ts) us c d = (c .0, clear-append ts us (c .1) d)
+
+pub clear-first : (ts us : List Test) → Clear (ts ++ us) → Clear ts
+clear-first [] us c = tt
+clear-first (t ∷ ts) us c = (c .0, clear-first ts us (c .1))
+
+pub clear-last : (ts us : List Test) → Clear (ts ++ us) → Clear us
+clear-last [] us c = c
+clear-last (t ∷ ts) us c = clear-last ts us (c .1)
+
+-- ---- answers
+
+-- a number's ground
+groundOf : ℕ → Ground
+groundOf n =
+    cond (eqb n 1) ListLength (cond (eqb n 2) WordKind (cond (eqb n 3) ExtraBit (cond (eqb n 4) RowOrder (cond (eqb n 5) StageCount
+    (cond (eqb n 6) PlaceField (cond (eqb n 7) StageMask (cond (eqb n 8) OutOfRange (cond (eqb n 9) OutputLength (cond (eqb n 10) NoChain
+    (cond (eqb n 11) FrameSize (cond (eqb n 12) FrameLength (cond (eqb n 13) CellValue ImageLength))))))))))))
+
+ground-back : (g : Ground) → groundOf (numberOf g) ≡ g
+unfolding groundOf
+ground-back ListLength = refl
+ground-back WordKind = refl
+ground-back ExtraBit = refl
+ground-back RowOrder = refl
+ground-back StageCount = refl
+ground-back PlaceField = refl
+ground-back StageMask = refl
+ground-back OutOfRange = refl
+ground-back OutputLength = refl
+ground-back NoChain = refl
+ground-back FrameSize = refl
+ground-back FrameLength = refl
+ground-back CellValue = refl
+ground-back ImageLength = refl
+
+ground-some : (g : Ground) → eqb (numberOf g) 0 ≡ false
+ground-some ListLength = refl
+ground-some WordKind = refl
+ground-some ExtraBit = refl
+ground-some RowOrder = refl
+ground-some StageCount = refl
+ground-some PlaceField = refl
+ground-some StageMask = refl
+ground-some OutOfRange = refl
+ground-some OutputLength = refl
+ground-some NoChain = refl
+ground-some FrameSize = refl
+ground-some FrameLength = refl
+ground-some CellValue = refl
+ground-some ImageLength = refl
+
+answerOf : ℕ × ℕ → Answer
+answerOf s = cond (eqb (s .0) 0) (Done (s .1)) (Refused (groundOf (s .0)))
+
+answer-back : (r : Answer) → answerOf (stated r) ≡ r
+unfolding answerOf
+answer-back (Done n) = refl
+answer-back (Refused g) = ap (λ b. cond b (Done 0) (Refused (groundOf (numberOf g)))) (ground-some g) ∙ ap Refused (ground-back g)
+
+-- two answers that say the same are the same: no two grounds share a number, and none has the number 0
+pub stated-once : (r s : Answer) → stated r ≡ stated s → r ≡ s
+stated-once r s e = sym (answer-back r) ∙ ap answerOf e ∙ answer-back s
+
+-- no answer is both a result and a refusal
+pub result-no-refusal : (r : Answer) (n k : ℕ) → stated r ≡ result n → stated r ≡ refusal k → k ≡ 0
+result-no-refusal r n k p q = ap (λ s. s .0) (sym q ∙ p)
