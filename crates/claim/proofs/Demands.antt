@@ -17,9 +17,9 @@ use Rattle.masks.specs.Mask.{stage}
 use Rattle.shapes.specs.Plan.{planPoints, planMasks, planWords, planTests}
 use Rattle.shapes.proofs.Accepted.{Shaped}
 use Rattle.shapes.proofs.Written.{plan-clear, masks-are, offset-is, plan-stands}
-use Rattle.planning.specs.Planning.{Shape, Planned, Unplanned}
+use Rattle.planning.specs.Planning.{Shape, PlanWritten, Unplannable}
 use Rattle.planning.proofs.Decided.{chain-of, accepted, written-words}
-use Rattle.cleaning.specs.Cleaning.{part, workTests, operationTests, stagesRun, Cleans}
+use Rattle.cleaning.specs.Cleaning.{part, workTests, operationTests, stagesRun, Cleaned}
 use Rattle.cleaning.specs.Operation.{Direct, inTurn}
 use Rattle.cleaning.proofs.Plans.{accepted-direct}
 use Rattle.cleaning.proofs.Turn.{same-direct}
@@ -29,7 +29,7 @@ use Rattle.claim.specs.Demand.{Demand2, Demand3, Agrees, Served, Decided
 
 pub demand2 : Demand2
 demand2 op plan W H f i j s i′ j′ c e =
-    let ran = c .works e in
+    let ran = c .done e in
     subst (Direct op W H f (In (planPoints plan))) (sym (ap (λ a. part (a .1) W H i′ j′) (ran .answer) ∙ ran .handed)) (accepted-direct op plan W H f i j e)
 
 -- ---- demand 3
@@ -45,10 +45,10 @@ module _ (ws : List ℕ) (S : Shaped ws) (d : Point) (ms : List ℕ) (P : PlanOf
   runs W H f i j e = unclear (operationTests (planWords d ms) W H f i j) (clear-append (planTests (planWords d ms)) (workTests W H f i j) (plan-clear ws S d ms P) (work-clear W H f i j e))
 
   -- and each agrees
-  pub agrees : (op : Operation) (W H : ℕ) (f i j : List ℕ) (s : Answer) (i′ j′ : List ℕ) → firstOf (workTests W H f i j) ≡ 0 → Cleans op (planWords d ms) W H f i j s i′ j′ → Agrees op ws d ms W H f s i′ j′
+  pub agrees : (op : Operation) (W H : ℕ) (f i j : List ℕ) (s : Answer) (i′ j′ : List ℕ) → firstOf (workTests W H f i j) ≡ 0 → Cleaned op (planWords d ms) W H f i j s i′ j′ → Agrees op ws d ms W H f s i′ j′
   agrees op W H f i j s i′ j′ e c =
       let run = runs W H f i j e in
-      let ran = c .works run in
+      let ran = c .done run in
       let n : stagesRun op (length (planMasks (planWords d ms))) ≡ stagesRun op (length ms) = ap (λ l. stagesRun op (length l)) (masks-are ws S d ms P) in
       record {
         answer = ran .answer ∙ ap result n;
@@ -56,7 +56,7 @@ module _ (ws : List ℕ) (S : Shaped ws) (d : Point) (ms : List ℕ) (P : PlanOf
         direct = same-direct op W H f (In (planPoints (planWords d ms))) (Shape ws) (part (stated s .1) W H i′ j′) (plan-stands ws S d ms P) (demand2 op (planWords d ms) W H f i j s i′ j′ c run);
       }
 
-served : (ws out : List ℕ) (r : Answer) (out′ : List ℕ) → Shaped ws → Planned ws out r out′ → Served ws out r out′
+served : (ws out : List ℕ) (r : Answer) (out′ : List ℕ) → Shaped ws → PlanWritten ws out r out′ → Served ws out r out′
 served ws out r out′ S w =
     let d = w .offset in
     let ms = w .stages in
@@ -70,7 +70,7 @@ served ws out r out′ S w =
       picked = w .picked;
       sum = P .sum;
       fewest = w .fewest;
-      frames = λ op W H f i j s i′ j′ e. subst (λ p. Cleans op p W H f i j s i′ j′ → Agrees op ws d ms W H f s i′ j′) (sym head) (agrees ws S d ms P op W H f i j s i′ j′ e);
+      frames = λ op W H f i j s i′ j′ e. subst (λ p. Cleaned op p W H f i j s i′ j′ → Agrees op ws d ms W H f s i′ j′) (sym head) (agrees ws S d ms P op W H f i j s i′ j′ e);
     }
 
 -- a result is not refusal 10
@@ -78,9 +78,9 @@ pub not-ten : (r : Answer) (n : ℕ) → stated r ≡ result n → stated r ≡ 
 not-ten r n p q = let z = result-no-refusal r n 10 p q in omega arith
 
 pub demand3 : Demand3
-demand3 ws out r out′ p e = go (p .works e)
+demand3 ws out r out′ p e = go (p .done e)
   where
-    go : Unplanned ws out r out′ ⊎ Planned ws out r out′ → Decided ws out r out′
+    go : Unplannable ws out r out′ ⊎ PlanWritten ws out r out′ → Decided ws out r out′
     go (inl u) = record { none = (λ _. u .none, λ _. u .answer); plan = inl (u .answer) }
     go (inr w) = record {
       none = (λ q. absurd (not-ten r (length (w .stages) + 2) (w .answer) q), λ f. absurd (f (chain-of (Shape ws) (w .offset) (w .stages) (w .picked .plan))));

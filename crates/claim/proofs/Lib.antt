@@ -1,3 +1,3 @@
 pub mod Demands
 pub mod Claimed
-pub mod Examples
+pub mod Measured

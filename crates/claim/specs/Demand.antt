@@ -10,9 +10,9 @@ use Rattle.words.specs.Ground.{firstOf, stated, result, refusal}
 use Rattle.words.specs.declared.Answer.{Answer}
 use Rattle.masks.specs.Chain.{Chain, Picked, sumOf}
 use Rattle.shapes.specs.Plan.{planPoints, planWords}
-use Rattle.planning.specs.Planning.{Shape, member, permitted, planningTests, Plans}
+use Rattle.planning.specs.Planning.{Shape, member, permitted, planningTests, Planned}
 use Rattle.cleaning.specs.Operation.{Direct, inTurn}
-use Rattle.cleaning.specs.Cleaning.{workTests, operationTests, stagesRun, part, Cleans}
+use Rattle.cleaning.specs.Cleaning.{workTests, operationTests, stagesRun, part, Cleaned}
 use Rattle.cleaning.specs.declared.Operation.{Operation}
 
 -- demand 2: on every accepted plan list and frame, whoever wrote the plan, what is handed back for the number that the operation answered is what
@@ -20,7 +20,7 @@ use Rattle.cleaning.specs.declared.Operation.{Operation}
 abbrev pub Demand2 : Type 0
 Demand2 =
     (op : Operation) (plan : List ℕ) (W H : ℕ) (f i j : List ℕ) (s : Answer) (i′ j′ : List ℕ)
-    → Cleans op plan W H f i j s i′ j′
+    → Cleaned op plan W H f i j s i′ j′
     → firstOf (operationTests plan W H f i j) ≡ 0
     → Direct op W H f (In (planPoints plan)) (part (stated s .1) W H i′ j′)
 
@@ -44,7 +44,7 @@ pub record Served (ws out : List ℕ) (r : Answer) (out′ : List ℕ) : Type 0 
   pub fewest : (c : Chain member (Shape ws)) → length stages ≤ length (c .members)
   pub frames : (op : Operation) (W H : ℕ) (f i j : List ℕ) (s : Answer) (i′ j′ : List ℕ)
       → firstOf (workTests W H f i j) ≡ 0
-      → Cleans op (take (stated r .1) out′) W H f i j s i′ j′
+      → Cleaned op (take (stated r .1) out′) W H f i j s i′ j′
       → Agrees op ws offset stages W H f s i′ j′
 
 -- planning's answer for an accepted shape: "no chain" exactly when no list of subsets of the square, of any length and with any offset, has the shape as
@@ -55,4 +55,4 @@ pub record Decided (ws out : List ℕ) (r : Answer) (out′ : List ℕ) : Type 0
 
 -- demand 3: for every accepted shape
 abbrev pub Demand3 : Type 0
-Demand3 = (ws out : List ℕ) (r : Answer) (out′ : List ℕ) → Plans ws out r out′ → firstOf (planningTests ws out) ≡ 0 → Decided ws out r out′
+Demand3 = (ws out : List ℕ) (r : Answer) (out′ : List ℕ) → Planned ws out r out′ → firstOf (planningTests ws out) ≡ 0 → Decided ws out r out′

@@ -12,28 +12,28 @@ use Rattle.words.specs.Ground.{firstOf, stated, result, refusal}
 use Rattle.words.specs.declared.Answer.{Answer}
 use Rattle.masks.specs.Chain.{PlanOf, before}
 use Rattle.shapes.specs.Shape.{shapePoints}
-use Rattle.planning.specs.Planning.{Shape, permitted, planningTests, Plans}
-use Rattle.planning.specs.Printer.{Prints, lineFeed}
+use Rattle.planning.specs.Planning.{Shape, permitted, planningTests, Planned}
+use Rattle.planning.specs.Printer.{Printed, lineFeed}
 use Rattle.grids.specs.Frame.{gridSize}
 use Rattle.cleaning.specs.Operation.{Direct}
-use Rattle.cleaning.specs.Cleaning.{part, Cleans}
+use Rattle.cleaning.specs.Cleaning.{part, Cleaned}
 use Rattle.cleaning.specs.declared.Operation.{Operation}
 use Rattle.cleaning.specs.declared.Operation.the-variants.{Erosion, Opening, Closing}
 
 -- ---- planning
 
 -- the shape list is accepted, planning can keep its promise on it, and then writes exactly these words before the rest of the output list
-pub record PlansAs (ws plan : List ℕ) : Type 0 where
+pub record PlannedAs (ws plan : List ℕ) : Type 0 where
   pub accepted : (out : List ℕ) → 32 ≤ length out → firstOf (planningTests ws out) ≡ 0
-  pub possible : (out : List ℕ) → 32 ≤ length out → (r : Answer) × (out′ : List ℕ) × Plans ws out r out′
-  pub answer : (out : List ℕ) → 32 ≤ length out → (r : Answer) (out′ : List ℕ) → Plans ws out r out′ → stated r ≡ result (length plan)
-  pub words : (out : List ℕ) → 32 ≤ length out → (r : Answer) (out′ : List ℕ) → Plans ws out r out′ → out′ ≡ plan ++ drop (length plan) out
+  pub possible : (out : List ℕ) → 32 ≤ length out → (r : Answer) × (out′ : List ℕ) × Planned ws out r out′
+  pub answer : (out : List ℕ) → 32 ≤ length out → (r : Answer) (out′ : List ℕ) → Planned ws out r out′ → stated r ≡ result (length plan)
+  pub words : (out : List ℕ) → 32 ≤ length out → (r : Answer) (out′ : List ℕ) → Planned ws out r out′ → out′ ≡ plan ++ drop (length plan) out
 
 -- the shape list passes every other ground, planning can keep its promise on it, and then refuses it by 10 and writes nothing
 pub record RefusedTen (ws : List ℕ) : Type 0 where
   pub accepted : (out : List ℕ) → 32 ≤ length out → firstOf (planningTests ws out) ≡ 0
-  pub possible : (out : List ℕ) → 32 ≤ length out → (r : Answer) × (out′ : List ℕ) × Plans ws out r out′
-  pub answer : (out : List ℕ) → 32 ≤ length out → (r : Answer) (out′ : List ℕ) → Plans ws out r out′ → (stated r ≡ refusal 10) × (out′ ≡ out)
+  pub possible : (out : List ℕ) → 32 ≤ length out → (r : Answer) × (out′ : List ℕ) × Planned ws out r out′
+  pub answer : (out : List ℕ) → 32 ≤ length out → (r : Answer) (out′ : List ℕ) → Planned ws out r out′ → (stated r ≡ refusal 10) × (out′ ≡ out)
 
 -- shape lists, and the words of their plans
 abbrev pub fourWords : List ℕ
@@ -74,37 +74,37 @@ rightWords = 0x10000000 ∷ 0x20000002 ∷ []
 
 -- the frame f cleaned with the shape list ws is r: directly, and as the part that is handed back for the operation's answer, given the shape's plan and
 -- whatever the work images held
-pub record CleansAs (op : Operation) (ws plan f r : List ℕ) : Type 0 where
-  pub plans : PlansAs ws plan
+pub record CleanedAs (op : Operation) (ws plan f r : List ℕ) : Type 0 where
+  pub plans : PlannedAs ws plan
   pub direct : Direct op (length f) 1 f (Shape ws) r
   pub possible : (i j : List ℕ) → gridSize (length f) 1 ≤ length i → gridSize (length f) 1 ≤ length j
-      → (s : Answer) × (i′ : List ℕ) × (j′ : List ℕ) × Cleans op plan (length f) 1 f i j s i′ j′
+      → (s : Answer) × (i′ : List ℕ) × (j′ : List ℕ) × Cleaned op plan (length f) 1 f i j s i′ j′
   pub handed : (i j : List ℕ) → gridSize (length f) 1 ≤ length i → gridSize (length f) 1 ≤ length j
-      → (s : Answer) (i′ j′ : List ℕ) → Cleans op plan (length f) 1 f i j s i′ j′ → part (stated s .1) (length f) 1 i′ j′ ≡ r
+      → (s : Answer) (i′ j′ : List ℕ) → Cleaned op plan (length f) 1 f i j s i′ j′ → part (stated s .1) (length f) 1 i′ j′ ≡ r
 
 pub record Measured : Type 0 where
   -- the row of four cells, and what the program prints for it
-  pub four : PlansAs fourWords fourPlan
-  pub four-printed : (output : List ℕ) → Prints fourInput output → output ≡ fourOutput
+  pub four : PlannedAs fourWords fourPlan
+  pub four-printed : (output : List ℕ) → Printed fourInput output → output ≡ fourOutput
   -- 3 then 5 comes before 3 then 7, which is a plan of it too
   pub four-before : (before (3 ∷ 5 ∷ []) (3 ∷ 7 ∷ []) ≡ true) × (before (3 ∷ 7 ∷ []) (3 ∷ 5 ∷ []) ≡ false)
   pub four-other : PlanOf permitted (Shape fourWords) origin (3 ∷ 7 ∷ [])
   -- one cell (0,0) with anchor (0,0), and with anchor (15,15): n = 0
-  pub cell : PlansAs (0x10000000 ∷ 0x20000001 ∷ []) (0x30000000 ∷ 0x40000f0f ∷ [])
-  pub corner : PlansAs (0x100000ff ∷ 0x20000001 ∷ []) (0x30000000 ∷ 0x40000000 ∷ [])
+  pub cell : PlannedAs (0x10000000 ∷ 0x20000001 ∷ []) (0x30000000 ∷ 0x40000f0f ∷ [])
+  pub corner : PlannedAs (0x100000ff ∷ 0x20000001 ∷ []) (0x30000000 ∷ 0x40000000 ∷ [])
   -- columns 0 and 3 of one row; columns 0, 1, 3
   pub apart : RefusedTen (0x10000000 ∷ 0x20000009 ∷ [])
   pub gap : RefusedTen (0x10000000 ∷ 0x2000000b ∷ [])
   -- eight points: stages 17, 33, 129, though the extents allow two
-  pub eight : PlansAs eightWords (0x30000003 ∷ 0x40000f0f ∷ 0x50000011 ∷ 0x50000021 ∷ 0x50000081 ∷ [])
+  pub eight : PlannedAs eightWords (0x30000003 ∷ 0x40000f0f ∷ 0x50000011 ∷ 0x50000021 ∷ 0x50000081 ∷ [])
   pub eight-points : shapePoints eightWords
       ≡ ((pos 0, pos 0) ∷ (pos 1, pos 1) ∷ (pos 2, pos 1) ∷ (pos 1, pos 2) ∷ (pos 3, pos 2) ∷ (pos 2, pos 3) ∷ (pos 3, pos 3) ∷ (pos 4, pos 4) ∷ [])
   pub eight-allowed : (max (width (shapePoints eightWords)) (height (shapePoints eightWords)) + 1) / 2 ≡ 2
   -- 1 0 1 closed by columns 0–2
-  pub closed : CleansAs Closing threeWords (0x30000001 ∷ 0x40000f0f ∷ 0x50000007 ∷ []) (1 ∷ 0 ∷ 1 ∷ []) (1 ∷ 1 ∷ 1 ∷ [])
+  pub closed : CleanedAs Closing threeWords (0x30000001 ∷ 0x40000f0f ∷ 0x50000007 ∷ []) (1 ∷ 0 ∷ 1 ∷ []) (1 ∷ 1 ∷ 1 ∷ [])
   -- 1 1 eroded by columns 0–1; the same on 1 1 0
-  pub eroded : CleansAs Erosion twoWords (0x30000001 ∷ 0x40000f0f ∷ 0x50000003 ∷ []) (1 ∷ 1 ∷ []) (1 ∷ 0 ∷ [])
-  pub eroded-three : CleansAs Erosion twoWords (0x30000001 ∷ 0x40000f0f ∷ 0x50000003 ∷ []) (1 ∷ 1 ∷ 0 ∷ []) (1 ∷ 0 ∷ 0 ∷ [])
+  pub eroded : CleanedAs Erosion twoWords (0x30000001 ∷ 0x40000f0f ∷ 0x50000003 ∷ []) (1 ∷ 1 ∷ []) (1 ∷ 0 ∷ [])
+  pub eroded-three : CleanedAs Erosion twoWords (0x30000001 ∷ 0x40000f0f ∷ 0x50000003 ∷ []) (1 ∷ 1 ∷ 0 ∷ []) (1 ∷ 0 ∷ 0 ∷ [])
   -- one cell (1,0): 1 0 0 eroded, and opened
-  pub eroded-point : CleansAs Erosion rightWords (0x30000000 ∷ 0x40000f10 ∷ []) (1 ∷ 0 ∷ 0 ∷ []) (0 ∷ 0 ∷ 0 ∷ [])
-  pub opened-point : CleansAs Opening rightWords (0x30000000 ∷ 0x40000f10 ∷ []) (1 ∷ 0 ∷ 0 ∷ []) (1 ∷ 0 ∷ 0 ∷ [])
+  pub eroded-point : CleanedAs Erosion rightWords (0x30000000 ∷ 0x40000f10 ∷ []) (1 ∷ 0 ∷ 0 ∷ []) (0 ∷ 0 ∷ 0 ∷ [])
+  pub opened-point : CleanedAs Opening rightWords (0x30000000 ∷ 0x40000f10 ∷ []) (1 ∷ 0 ∷ 0 ∷ []) (1 ∷ 0 ∷ 0 ∷ [])

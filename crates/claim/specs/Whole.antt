@@ -10,17 +10,17 @@ use Rattle.words.specs.Ground.{firstOf, stated, result, refusal}
 use Rattle.words.specs.declared.Answer.{Answer}
 use Rattle.masks.specs.Chain.{Chain, Picked}
 use Rattle.shapes.specs.Plan.{planWords}
-use Rattle.planning.specs.Planning.{Shape, member, permitted, planningTests, Plans}
+use Rattle.planning.specs.Planning.{Shape, member, permitted, planningTests, Planned}
 use Rattle.cleaning.specs.Operation.{Direct, inTurn}
-use Rattle.cleaning.specs.Cleaning.{workTests, stagesRun, part, Cleans}
+use Rattle.cleaning.specs.Cleaning.{workTests, stagesRun, part, Cleaned}
 use Rattle.cleaning.specs.declared.Operation.{Operation}
 
 -- what the function does, call by call: a refusal of planning is its answer, nothing more is changed and the part is empty; else the operation is given
 -- the words written, as many as the length returned, and the part is that of the number which the operation answered, empty if it refused
 pub record Steps (op : Operation) (ws out : List ℕ) (r : Answer) (out′ : List ℕ) (W H : ℕ) (f i j : List ℕ) (s : Answer) (i′ j′ p : List ℕ) : Type 0 where
-  pub plans : Plans ws out r out′
+  pub plans : Planned ws out r out′
   pub stops : stated r .0 ≢ 0 → (stated s ≡ stated r) × (i′ ≡ i) × (j′ ≡ j) × (p ≡ [])
-  pub cleans : stated r .0 ≡ 0 → Cleans op (take (stated r .1) out′) W H f i j s i′ j′
+  pub cleans : stated r .0 ≡ 0 → Cleaned op (take (stated r .1) out′) W H f i j s i′ j′
   pub refuses : stated s .0 ≢ 0 → p ≡ []
   pub hands : stated s .0 ≡ 0 → p ≡ part (stated s .1) W H i′ j′
 

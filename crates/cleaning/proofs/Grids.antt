@@ -10,9 +10,10 @@ use Rattle.masks.specs.Chain.{sumOf}
 use Rattle.masks.specs.Mask.{stage}
 use Rattle.grids.specs.Frame.{free, frame}
 use Rattle.grids.specs.Grid.{grid, put, once}
+use Rattle.grids.proofs.Putting.{frame-binary, frame-within, put-whole}
 use Rattle.grids.proofs.Stage.{over}
 use Rattle.cleaning.specs.Operation.{through}
-use Rattle.cleaning.proofs.Turn.{turn, frame-binary, frame-within, put-whole}
+use Rattle.cleaning.proofs.Turn.{turn}
 use Rattle.cleaning.proofs.Within.{Small, kept, first-stages, small-part}
 
 pub after-stages : (erode : Bool) (W H : ℕ) (f ms : List ℕ) (k : ℕ) → T (all stage ms) → Small ms → ((i : ℕ) → getD f i 0 ≤ 1)

@@ -21,7 +21,7 @@ use Rattle.shapes.specs.Plan.{planOffset, planMasks, planTests}
 use Rattle.grids.specs.Frame.{gridSize, badSize, shortImage}
 use Rattle.grids.specs.Grid.{grid, laid}
 use Rattle.grids.proofs.Pictures.{length-cells}
-use Rattle.cleaning.specs.Cleaning.{stagesRun, part, workTests, operationTests, Cleans}
+use Rattle.cleaning.specs.Cleaning.{stagesRun, part, workTests, operationTests, Cleaned}
 use Rattle.cleaning.specs.Operation.{inTurn, outside, asRead, lastGrid, readAt}
 
 -- a list written over the start of an image, no farther than its first n bytes
@@ -41,7 +41,7 @@ turn-length : (op : Operation) (W H : ℕ) (f : List ℕ) (d : Point) (ms : List
 unfolding inTurn
 turn-length op W H f d ms = length-cells W H (λ p. grid (outside op) W H (lastGrid op W H ms (laid W H (asRead op W H f))) (readAt op d p)) ∙ mul-comm H W
 
-pub can-clean : (op : Operation) (plan : List ℕ) (W H : ℕ) (f i j : List ℕ) → firstOf (operationTests plan W H f i j) ≡ 0 → (s : Answer) × (i′ : List ℕ) × (j′ : List ℕ) × Cleans op plan W H f i j s i′ j′
+pub can-clean : (op : Operation) (plan : List ℕ) (W H : ℕ) (f i j : List ℕ) → firstOf (operationTests plan W H f i j) ≡ 0 → (s : Answer) × (i′ : List ℕ) × (j′ : List ℕ) × Cleaned op plan W H f i j s i′ j′
 unfolding planTests workTests part
 can-clean op plan W H f i j e = go (T-dec (eqb (n % 2) 0))
   where
@@ -80,14 +80,14 @@ can-clean op plan W H f i j e = go (T-dec (eqb (n % 2) 0))
         let b : T (not (badSize W H || ltb (length (r ++ drop (length r) k)) (W * H))) = not-or (badSize W H) (ltb (length (r ++ drop (length r) k)) (W * H)) .1 (c .0, not-ltb (length (r ++ drop (length r) k)) (W * H) (omega arith)) in
         ap (λ t. cond t [] (take (W * H) (r ++ drop (length r) k))) (T-false (badSize W H || ltb (length (r ++ drop (length r) k)) (W * H)) b) ∙ take-at r (drop (length r) k) (W * H) size
 
-    go : T (eqb (n % 2) 0) ⊎ T (not (eqb (n % 2) 0)) → (s : Answer) × (i′ : List ℕ) × (j′ : List ℕ) × Cleans op plan W H f i j s i′ j′
+    go : T (eqb (n % 2) 0) ⊎ T (not (eqb (n % 2) 0)) → (s : Answer) × (i′ : List ℕ) × (j′ : List ℕ) × Cleaned op plan W H f i j s i′ j′
     go (inl t) = (
       Done n,
       i,
       r ++ drop (length r) j,
       record {
-        refuses = λ z. absurd (z e);
-        works = λ _. record {
+        refused = λ z. absurd (z e);
+        done = λ _. record {
           answer = refl;
           handed = ap (λ b. hand (cond b (r ++ drop (length r) j) i)) (T-true (eqb (n % 2) 0) t) ∙ start j (room .1);
           first-size = refl;
@@ -102,8 +102,8 @@ can-clean op plan W H f i j e = go (T-dec (eqb (n % 2) 0))
       r ++ drop (length r) i,
       j,
       record {
-        refuses = λ z. absurd (z e);
-        works = λ _. record {
+        refused = λ z. absurd (z e);
+        done = λ _. record {
           answer = refl;
           handed = ap (λ b. hand (cond b j (r ++ drop (length r) i))) (T-false (eqb (n % 2) 0) t) ∙ start i (room .0);
           first-size = over-length r i (gridSize W H) fits (room .0);

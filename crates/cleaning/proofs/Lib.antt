@@ -3,3 +3,4 @@ pub mod Turn
 pub mod Grids
 pub mod Plans
 pub mod Kept
+pub mod Examples

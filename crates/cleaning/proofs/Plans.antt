@@ -1,7 +1,7 @@
 -- Every accepted plan list, whoever wrote it, gives in turn what its points give directly: its masks are stages, and its points' extents, which are
 -- those of the sum of its stages, are at most 15, so no cell of the sum is farther than that.
 use mathlib.Core.Path.{_≡_, refl, sym, _∙_, ap, subst}
-use mathlib.Core.Bool.{Bool, true, false, not, _||_}
+use mathlib.Core.Bool.{not, _||_}
 use mathlib.Core.List.{List, map}
 use Prim.Native.Nat.{ℕ, _≤_, zero-le}
 use lib.Dec.{T, ltb, nltb→le}
@@ -18,26 +18,18 @@ use Rattle.plane.proofs.Member.{In-map}
 use Rattle.plane.proofs.Tests.{not-or}
 use Rattle.words.specs.Ground.{firstOf}
 use Rattle.words.proofs.Refusals.{clear, clear-first, clear-last}
-use Rattle.masks.specs.Chain.{sumOf, falling}
+use Rattle.masks.specs.Chain.{sumOf}
 use Rattle.masks.specs.Mask.{stage}
 use Rattle.masks.proofs.Cells.{sumCells, sum-cells, sum-low, Low}
-use Rattle.shapes.specs.Plan.{planMasks, planOffset, planPoints, wrongMasks, planTests}
+use Rattle.shapes.specs.Plan.{planMasks, planOffset, planPoints, planTests}
 use Rattle.shapes.specs.Shape.{tooFar, outOfRange}
-use Rattle.shapes.proofs.Written.{plan-points}
+use Rattle.shapes.proofs.Written.{plan-itself}
 use Rattle.grids.specs.Frame.{badCell}
 use Rattle.grids.proofs.Stage.{bytes-binary}
 use Rattle.cleaning.specs.Cleaning.{workTests, operationTests}
 use Rattle.cleaning.specs.Operation.{Direct, inTurn}
 use Rattle.cleaning.proofs.Turn.{turn-direct}
 use Rattle.cleaning.proofs.Within.{Small}
-
--- ground 7
-pub plan-stages : (ms : List ℕ) → T (not (wrongMasks ms)) → T (all stage ms)
-plan-stages ms t = back (all stage ms) (not-or (not (all stage ms)) (falling ms) .0 t .0)
-  where
-    back : (b : Bool) → T (not (not b)) → T b
-    back true t = tt
-    back false t = t
 
 -- ground 8: the sum of stages has a cell at 0 along each axis, and no two points are farther apart than 15
 pub small-plan : (ws : List ℕ) → T (all stage (planMasks ws)) → T (not (outOfRange (planPoints ws))) → Small (planMasks ws)
@@ -87,5 +79,5 @@ accepted-direct op plan W H f i j e =
     let c = clear (operationTests plan W H f i j) tt e in
     let p = clear-first (planTests plan) (workTests W H f i j) c .1 .1 .1 .1 .1 in
     let w = clear-last (planTests plan) (workTests W H f i j) c in
-    let t = plan-stages (planMasks plan) (p .0) in
-    turn-direct op W H f (planOffset plan) (planMasks plan) (In (planPoints plan)) t (small-plan plan t (p .1 .0)) (binary f (w .1 .1 .0)) (plan-points plan)
+    let P = plan-itself plan (p .0) in
+    turn-direct op W H f (planOffset plan) (planMasks plan) (In (planPoints plan)) (P .stages) (small-plan plan (P .stages) (p .1 .0)) (binary f (w .1 .1 .0)) (P .sum)

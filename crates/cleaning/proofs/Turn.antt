@@ -4,7 +4,7 @@ use mathlib.Core.Path.{_≡_, sym, _∙_, ap, subst, fun-ext}
 use mathlib.Core.Logic.{_↔_, _⊎_, inl, inr}
 use mathlib.Core.Bool.{Bool, true, false}
 use mathlib.Core.List.{List, [], _∷_}
-use Prim.Native.Nat.{ℕ, suc, _+_, _*_, _≤_, zero-le}
+use Prim.Native.Nat.{ℕ, suc, _+_, _*_, _≤_}
 use native.Mathlib.Omega.{arith}
 use native.Mathlib.Decide.{ℕ-discrete}
 use native.Mathlib.Nat.{mul-comm}
@@ -15,7 +15,7 @@ use Rattle.cleaning.specs.declared.Operation.{Operation}
 use Rattle.cleaning.specs.declared.Operation.the-variants.{Dilation, Erosion, Opening, Closing}
 use Rattle.plane.specs.Lists.{In, all}
 use Rattle.plane.specs.Point.{Point, _+ᵖ_, _-ᵖ_, origin, PointSet, _≐_, moved}
-use Rattle.plane.proofs.Algebra.{+ᵖ-origin, -ᵖ-cancel, ≐-refl, ≐-sym, ≐-trans, ⊕-comm, ⊕-cong, ⊖-cong, moved-⊕, ⊖-moved, opening-moved, closing-moved}
+use Rattle.plane.proofs.Algebra.{+ᵖ-origin, subᵖ-cancel, ≐-refl, ≐-sym, ≐-trans, ⊕-comm, ⊕-cong, ⊖-cong, moved-⊕, ⊖-moved, opening-moved, closing-moved}
 use Rattle.masks.specs.Chain.{sums, sumOf}
 use Rattle.masks.specs.Mask.{maskPoints, stage}
 use Rattle.masks.proofs.Sum.{sums-is}
@@ -23,10 +23,11 @@ use Rattle.grids.specs.Frame.{free, full, greater, lesser, frame, occupied}
 use Rattle.grids.specs.Grid.{grid, laid, put, once}
 use Rattle.grids.specs.Image.{cells}
 use Rattle.grids.proofs.Fold.{dilated-same, dilated-sums, eroded-same, eroded-sums}
-use Rattle.grids.proofs.Pictures.{Within, view-within, view-outside, getD-cells, length-cells}
-use Rattle.grids.proofs.Stage.{greater-laws, lesser-laws, over, Binary, over-binary, view-binary, D-set, E-set, once-is}
+use Rattle.grids.proofs.Pictures.{Within, view-within, getD-cells, length-cells}
+use Rattle.grids.proofs.Putting.{frame-binary, frame-within, put-whole}
+use Rattle.grids.proofs.Stage.{greater-laws, lesser-laws, over, Binary, over-binary, D-set, E-set, once-is}
 use Rattle.cleaning.specs.Operation.{made, Says, Direct, asRead, through, lastGrid, readAt, inTurn}
-use Rattle.cleaning.proofs.Within.{Small, Kept, kept, within-more, dilation-within, erosion-within, erosion-kept}
+use Rattle.cleaning.proofs.Within.{Small, Kept, kept, dilation-within, erosion-within, erosion-kept}
 
 -- ---- a picture taken through a sum
 
@@ -41,7 +42,7 @@ over-same false P Q f s = fun-ext (λ p. dilated-same greater free greater-laws 
 over-none : (erode : Bool) (f : Point → ℕ) → Binary f → over erode (sumOf []) f ≡ f
 unfolding sumOf
 over-none true f b = fun-ext (λ p. let q : f (p +ᵖ origin) ≡ f p = ap f (+ᵖ-origin p) in let z = b p in omega arith)
-over-none false f b = fun-ext (λ p. let q : f (p -ᵖ origin) ≡ f p = ap f (sym (+ᵖ-origin (p -ᵖ origin)) ∙ -ᵖ-cancel p origin) in omega arith)
+over-none false f b = fun-ext (λ p. let q : f (p -ᵖ origin) ≡ f p = ap f (sym (+ᵖ-origin (p -ᵖ origin)) ∙ subᵖ-cancel p origin) in omega arith)
 
 over-cons : (erode : Bool) (m : ℕ) (ms : List ℕ) (f : Point → ℕ) → over erode (sumOf ms) (over erode (maskPoints m) f) ≡ over erode (sumOf (m ∷ ms)) f
 unfolding sumOf
@@ -63,18 +64,6 @@ turn erode W H (m ∷ ms) f g b k e =
     let here : grid free W H (once erode free W H m g) ≡ F =
     ap (grid free W H) (once-is erode free W H m g) ∙ ap (λ z. grid free W H (laid W H (over erode (maskPoints m) z))) e ∙ fun-ext (view-within 0 (W + 15) (H + 15) F first) in
     turn erode W H ms F (once erode free W H m g) c rest here ∙ over-cons erode m ms f
-
--- ---- the frame
-
-pub frame-binary : (W H : ℕ) (f : List ℕ) → ((i : ℕ) → getD f i 0 ≤ 1) → Binary (frame free W H f)
-frame-binary W H f v = view-binary 0 W H f zero-le (λ i h. v i)
-
-pub frame-within : (W H : ℕ) (f : List ℕ) → Within 0 W H (frame free W H f)
-frame-within W H f = view-outside 0 W H f
-
-pub put-whole : (W H : ℕ) (f : List ℕ) → grid free W H (put W H f) ≡ frame free W H f
-unfolding put
-put-whole W H f = fun-ext (view-within 0 (W + 15) (H + 15) (frame free W H f) (within-more (frame free W H f) W H 15 15 (frame-within W H f)))
 
 -- ---- the four operations
 

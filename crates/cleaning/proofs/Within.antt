@@ -11,13 +11,14 @@ use lib.IntN.{pos}
 use lib.ListN.{take, drop}
 use Rattle.plane.specs.Lists.{In, all}
 use Rattle.plane.specs.Point.{Point, _+ᵖ_, _-ᵖ_, Cell, point}
-use Rattle.plane.proofs.Algebra.{+ᵖ-origin, -ᵖ-cancel}
+use Rattle.plane.proofs.Algebra.{subᵖ-cancel}
 use Rattle.plane.proofs.Member.{In-map}
 use Rattle.plane.proofs.Tests.{T-and, T-dec, clash}
 use Rattle.masks.specs.Chain.{sumOf}
 use Rattle.masks.specs.Mask.{maskCells, stage}
 use Rattle.masks.proofs.Cells.{pair, addCell, sumCells, In-sums, sum-cells, Low, sum-low}
 use Rattle.grids.proofs.Pictures.{inside, Within, inside-add, inside-both}
+use Rattle.grids.proofs.Putting.{within-more}
 use Rattle.grids.proofs.Stage.{over, greatest-zero, least-zero}
 
 -- ---- one list of cells
@@ -35,7 +36,7 @@ dilated-within cs f W H a b w far p t =
         let x = k .0 in
         let y = k .1 in
         let v = inside-add W H (W + a) (H + b) (r .0 .0) (r .0 .1) (omega arith) (omega arith) (p -ᵖ q) u in
-        subst (λ z. T (inside (W + a) (H + b) z)) (ap (λ z. p -ᵖ q +ᵖ z) (sym (r .2)) ∙ -ᵖ-cancel p q) v
+        subst (λ z. T (inside (W + a) (H + b) z)) (ap (λ z. p -ᵖ q +ᵖ z) (sym (r .2)) ∙ subᵖ-cancel p q) v
 
 eroded-within : (cs : List Cell) (f : Point → ℕ) (W H : ℕ) → Within 0 W H f → Low cs → Within 0 W H (over true (map point cs) f)
 eroded-within cs f W H w l p t = go (T-dec (inside W H (p +ᵖ point (l .x)))) (T-dec (inside W H (p +ᵖ point (l .y))))
@@ -50,12 +51,6 @@ eroded-within cs f W H w l p t = go (T-dec (inside W H (p +ᵖ point (l .x)))) (
     go (inl u) (inl v) =
         absurd (clash (inside W H p) t (inside-both W H (l .y .0) (l .x .1) p
         (subst (λ n. T (inside W H (p +ᵖ (pos n, pos (l .x .1))))) (l .x-zero) u) (subst (λ n. T (inside W H (p +ᵖ (pos (l .y .0), pos n)))) (l .y-zero) v)))
-
-pub within-more : (f : Point → ℕ) (W H a b : ℕ) → Within 0 W H f → Within 0 (W + a) (H + b) f
-within-more f W H a b w p t = w p (not-T (inside W H p) (λ u. clash (inside (W + a) (H + b) p) t (more u)))
-  where
-    more : T (inside W H p) → T (inside (W + a) (H + b) p)
-    more u = subst (λ z. T (inside (W + a) (H + b) z)) (+ᵖ-origin p) (inside-add W H (W + a) (H + b) 0 0 (omega arith) (omega arith) p u)
 
 -- ---- sums of stages, and of the first k of them
 

@@ -5,7 +5,7 @@ use mathlib.Core.List.{List, [], _∷_, _++_}
 use Prim.Native.Nat.{ℕ, _*_, _%_}
 use lib.Dec.{ltb, eqb}
 use lib.ListN.{length, take, drop}
-use Rattle.words.specs.Ground.{Test, stated, result, Answers}
+use Rattle.words.specs.Ground.{Test, stated, result, Answered}
 use Rattle.words.specs.declared.Answer.{Answer}
 use Rattle.shapes.specs.Plan.{planTests, planMasks, planOffset}
 use Rattle.grids.specs.Frame.{badSize, wrongLength, badCell, shortImage, gridSize}
@@ -50,5 +50,5 @@ pub record Ran (op : Operation) (plan : List ℕ) (W H : ℕ) (f i j : List ℕ)
   pub second-size : length j′ ≡ length j
   pub second-past : drop (gridSize W H) j′ ≡ drop (gridSize W H) j
 
-abbrev pub Cleans : Operation → List ℕ → ℕ → ℕ → List ℕ → List ℕ → List ℕ → Answer → List ℕ → List ℕ → Type 0
-Cleans op plan W H f i j r i′ j′ = Answers (operationTests plan W H f i j) r ((i′ ≡ i) × (j′ ≡ j)) (Ran op plan W H f i j r i′ j′)
+abbrev pub Cleaned : Operation → List ℕ → ℕ → ℕ → List ℕ → List ℕ → List ℕ → Answer → List ℕ → List ℕ → Type 0
+Cleaned op plan W H f i j r i′ j′ = Answered (operationTests plan W H f i j) r ((i′ ≡ i) × (j′ ≡ j)) (Ran op plan W H f i j r i′ j′)

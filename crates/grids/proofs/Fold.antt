@@ -5,7 +5,7 @@ use mathlib.Core.Logic.{_↔_, inl, inr}
 use mathlib.Core.List.{List, [], _∷_, _++_, map}
 use Rattle.plane.specs.Lists.{In}
 use Rattle.plane.specs.Point.{Point, _+ᵖ_, negᵖ, _-ᵖ_}
-use Rattle.plane.proofs.Algebra.{+ᵖ-assoc, +ᵖ-comm, +ᵖ-cancel, -ᵖ-cancel}
+use Rattle.plane.proofs.Algebra.{+ᵖ-assoc, +ᵖ-comm, +ᵖ-cancel, subᵖ-cancel}
 use Rattle.masks.specs.Chain.{sums}
 use Rattle.grids.specs.Image.{fold, dilated, eroded}
 
@@ -79,7 +79,7 @@ module _ {A : Type 0} (pick : A → A → A) (e : A) (L : Semilattice pick) wher
       law : (a b : Point) → p -ᵖ (a +ᵖ b) ≡ p -ᵖ a -ᵖ b
       law a b =
           sym (+ᵖ-cancel (p -ᵖ (a +ᵖ b)) a) ∙ sym (+ᵖ-cancel (p -ᵖ (a +ᵖ b) +ᵖ a -ᵖ a) b)
-          ∙ ap (λ x. x -ᵖ b) (swap (p -ᵖ (a +ᵖ b)) a b ∙ ap (λ x. x -ᵖ a) (-ᵖ-cancel p (a +ᵖ b)))
+          ∙ ap (λ x. x -ᵖ b) (swap (p -ᵖ (a +ᵖ b)) a b ∙ ap (λ x. x -ᵖ a) (subᵖ-cancel p (a +ᵖ b)))
         where
           swap : (q a b : Point) → q +ᵖ a -ᵖ a +ᵖ b ≡ q +ᵖ (a +ᵖ b) -ᵖ a
           swap q a b = +ᵖ-assoc (q +ᵖ a) (negᵖ a) b ∙ ap (λ x. q +ᵖ a +ᵖ x) (+ᵖ-comm (negᵖ a) b) ∙ sym (+ᵖ-assoc (q +ᵖ a) b (negᵖ a)) ∙ ap (λ x. x -ᵖ a) (+ᵖ-assoc q a b)

@@ -1,3 +1,5 @@
 pub mod Fold
 pub mod Pictures
 pub mod Stage
+pub mod Putting
+pub mod Examples

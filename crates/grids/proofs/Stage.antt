@@ -14,7 +14,7 @@ use lib.ListN.{length, getD, take}
 use lib.Seq.{getD-take}
 use Rattle.plane.specs.Lists.{In, upTo}
 use Rattle.plane.specs.Point.{Point, _+ᵖ_, _-ᵖ_, _≐_, _⊕_, _⊖_}
-use Rattle.plane.proofs.Algebra.{+ᵖ-cancel, -ᵖ-cancel}
+use Rattle.plane.proofs.Algebra.{+ᵖ-cancel, subᵖ-cancel}
 use Rattle.plane.proofs.Member.{In-map, In-flat, any-no}
 use Rattle.plane.proofs.Tests.{T-and, not-or, not-ltb, cond-ind}
 use Rattle.masks.specs.Mask.{maskPoints, Mask}
@@ -77,7 +77,7 @@ over-binary false P f b p = greatest-le (λ a. f (p -ᵖ a)) P (λ a. b (p -ᵖ 
 
 pub D-set : (P : List Point) (f : Point → ℕ) → Binary f → occupied (dilated greater free P f) ≐ occupied f ⊕ In P
 D-set P f b p = (
-  λ e. let r = greatest-one (λ a. f (p -ᵖ a)) P e in (p -ᵖ r .0, r .0, r .2, r .1, -ᵖ-cancel p (r .0)),
+  λ e. let r = greatest-one (λ a. f (p -ᵖ a)) P e in (p -ᵖ r .0, r .0, r .2, r .1, subᵖ-cancel p (r .0)),
   λ h. let q : f (p -ᵖ h .1) ≡ 1 = subst (λ x. f x ≡ 1) (sym (+ᵖ-cancel (h .0) (h .1)) ∙ ap (λ x. x -ᵖ h .1) (h .4)) (h .2) in
       let r = absorb greater free greater-laws (λ a. f (p -ᵖ a)) P (h .1) (h .3) in
       let s = greatest-le (λ a. f (p -ᵖ a)) P (λ a. b (p -ᵖ a)) in

@@ -7,7 +7,7 @@ use lib.Dec.{ltb, eqb}
 use lib.ListN.{length}
 use Rattle.plane.specs.Lists.{any, keep}
 use Rattle.plane.specs.Point.{Point, PointSet}
-use Rattle.words.specs.Ground.{Test, stated, result, Answers}
+use Rattle.words.specs.Ground.{Test, stated, result, Answered}
 use Rattle.words.specs.declared.Answer.{Answer}
 use Rattle.grids.specs.Image.{view}
 
@@ -66,5 +66,5 @@ frameTests W H f = (11, badSize W H) ∷ (12, wrongLength W H f) ∷ (13, badCel
 unfoldable pub load : List ℕ → ℕ
 load f = length (keep (λ v. eqb v full) f)
 
-abbrev pub Loads : ℕ → ℕ → List ℕ → Answer → Type 0
-Loads W H f r = Answers (frameTests W H f) r (Unit {0}) (stated r ≡ result (load f))
+abbrev pub LoadCounted : ℕ → ℕ → List ℕ → Answer → Type 0
+LoadCounted W H f r = Answered (frameTests W H f) r (Unit {0}) (stated r ≡ result (load f))

@@ -5,7 +5,7 @@ use mathlib.Core.List.{List, [], _∷_, _++_}
 use Prim.Native.Nat.{ℕ, _+_}
 use lib.ListN.{take, drop}
 use Rattle.plane.specs.Point.{Point}
-use Rattle.words.specs.Ground.{Test, stated, result, Answers}
+use Rattle.words.specs.Ground.{Test, stated, result, Answered}
 use Rattle.words.specs.Word.{wrongKind, extraBit, stageKind, stageMask}
 use Rattle.words.specs.declared.Answer.{Answer}
 use Rattle.masks.specs.Mask.{maskPoints, stage}
@@ -55,9 +55,9 @@ pub record GridWritten (W H : ℕ) (g i : List ℕ) (r : Answer) (i′ : List �
   pub answer : stated r ≡ result 0
   pub image : i′ ≡ written W H g i
 
-abbrev pub Puts : ℕ → ℕ → List ℕ → List ℕ → Answer → List ℕ → Type 0
-Puts W H f i r i′ = Answers (putTests W H f i) r (i′ ≡ i) (GridWritten W H (put W H f) i r i′)
+abbrev pub FramePut : ℕ → ℕ → List ℕ → List ℕ → Answer → List ℕ → Type 0
+FramePut W H f i r i′ = Answered (putTests W H f i) r (i′ ≡ i) (GridWritten W H (put W H f) i r i′)
 
 -- the image read, g, is lent for reading alone
-abbrev pub Stages : Bool → ℕ → ℕ → ℕ → List ℕ → List ℕ → Answer → List ℕ → Type 0
-Stages erode w W H g i r i′ = Answers (stageTests w W H g i) r (i′ ≡ i) (GridWritten W H (once erode free W H (stageMask w) g) i r i′)
+abbrev pub Staged : Bool → ℕ → ℕ → ℕ → List ℕ → List ℕ → Answer → List ℕ → Type 0
+Staged erode w W H g i r i′ = Answered (stageTests w W H g i) r (i′ ≡ i) (GridWritten W H (once erode free W H (stageMask w) g) i r i′)

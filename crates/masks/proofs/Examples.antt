@@ -1,67 +1,52 @@
--- Document 01, "Measured against": the plans marked P, of sets of points, by the computed search.
+-- Worked cases of masks, sums and the order that picks.
 use mathlib.Core.Path.{_≡_, refl}
 use mathlib.Core.Bool.{true, false}
-use mathlib.Core.List.{List, [], _∷_, map}
-use Prim.Native.Nat.{_+_, _/_, max}
-use Rattle.plane.specs.Extent.{width, height, span}
-use Rattle.plane.specs.Lists.{In}
-use Rattle.plane.specs.Point.{Point, Cell, point, _+ᵖ_, origin}
-use Rattle.masks.specs.Chain.{subset, Chain, PlanOf, Picked, before}
-use Rattle.masks.specs.Mask.{stage}
-use Rattle.masks.proofs.Cells.{sumCells, cellSums}
-use Rattle.masks.proofs.Placed.{picked, placed, no-chain, hopeless, cells-plan}
-use Rattle.masks.proofs.Search.{search, same, same-is, mem}
+use mathlib.Core.List.{[], _∷_}
+use lib.IntN.{pos}
+use Rattle.plane.specs.Point.{_+ᵖ_}
+use Rattle.masks.specs.Chain.{sumOf, falling, before, subset}
+use Rattle.masks.specs.Mask.{maskCells, normal, stage, normalOf}
 
--- ---- a row of four cells: 3 then 5, which comes before 3 then 7
+-- cell (i, j) is bit 3j + i: bits 1, 3 and 8
+cells-of : maskCells 0x10a ≡ (1, 0) ∷ (0, 1) ∷ (2, 2) ∷ []
+unfolding maskCells
+cells-of = refl
 
-abbrev pub fourCells : List Cell
-fourCells = (0, 0) ∷ (1, 0) ∷ (2, 0) ∷ (3, 0) ∷ []
+-- a cell with i = 0 and one with j = 0: cells 1 and 3 are normal, cells 3 and 4 have no j = 0, cells 1 and 4 no i = 0
+normal-of : (normal 10 ≡ true) × (normal 24 ≡ false) × (normal 18 ≡ false)
+unfolding normal
+normal-of = (refl, refl, refl)
 
-pub four : Picked stage (In (map point fourCells)) origin (3 ∷ 5 ∷ [])
-unfolding _+ᵖ_ search same stage sumCells cellSums
-four = picked (In (map point fourCells)) fourCells origin (3 ∷ 5 ∷ []) (placed (map point fourCells) fourCells origin refl tt tt) tt tt tt tt refl
+-- two cells or more, normal, nine bits
+stage-of : (stage 3 ≡ true) × (stage 1 ≡ false) × (stage 6 ≡ false) × (stage 512 ≡ false) × (stage 511 ≡ true)
+unfolding stage
+stage-of = (refl, refl, refl, refl, refl)
 
-pub four-other : PlanOf stage (In (map point fourCells)) origin (3 ∷ 7 ∷ [])
-unfolding _+ᵖ_ same mem stage sumCells cellSums
-four-other = cells-plan (In (map point fourCells)) fourCells origin (3 ∷ 7 ∷ []) (placed (map point fourCells) fourCells origin refl tt tt) tt tt (same-is fourCells (sumCells (3 ∷ 7 ∷ [])) .0 tt)
+-- cells 4 and 5 shifted down by a row and by a column
+shifted : (normalOf 48 ≡ 3) × (normalOf 256 ≡ 1) × (normalOf 0 ≡ 0)
+unfolding normalOf
+shifted = (refl, refl, refl)
 
-pub four-order : (before (3 ∷ 5 ∷ []) (3 ∷ 7 ∷ []) ≡ true) × (before (3 ∷ 7 ∷ []) (3 ∷ 5 ∷ []) ≡ false)
-four-order = (refl, refl)
+-- with no stage the sum is one point
+sum-none : sumOf [] ≡ (pos 0, pos 0) ∷ []
+unfolding sumOf
+sum-none = refl
 
--- ---- one cell, at any place: no stage
+sum-of : sumOf (3 ∷ 9 ∷ []) ≡ (pos 0, pos 0) ∷ (pos 0, pos 1) ∷ (pos 1, pos 0) ∷ (pos 1, pos 1) ∷ []
+unfolding sumOf _+ᵖ_
+sum-of = refl
 
-abbrev pub oneCell : List Cell
-oneCell = (0, 0) ∷ []
+-- masks may be equal, and may not fall
+rising : (falling (3 ∷ 3 ∷ 5 ∷ []) ≡ false) × (falling (3 ∷ 5 ∷ 3 ∷ []) ≡ true)
+rising = (refl, refl)
 
-pub one : (d : Point) (A : List Point) → A ≡ map (λ c. point c +ᵖ d) oneCell → Picked stage (In A) d []
-unfolding search same stage sumCells cellSums
-one d A e = picked (In A) oneCell d [] (placed A oneCell d e tt tt) tt tt tt tt refl
+-- fewer stages first, then the first difference; no list comes before itself
+order : (before (7 ∷ []) (3 ∷ 3 ∷ []) ≡ true) × (before (3 ∷ 5 ∷ []) (3 ∷ 7 ∷ []) ≡ true) × (before (3 ∷ 9 ∷ []) (5 ∷ 5 ∷ []) ≡ true)
+order = (refl, refl, refl)
 
--- ---- columns 0 and 3 of one row; columns 0, 1 and 3: no chain
+order-strict : (before [] [] ≡ false) × (before (3 ∷ 5 ∷ []) (3 ∷ 5 ∷ []) ≡ false) × (before (5 ∷ 5 ∷ []) (3 ∷ 9 ∷ []) ≡ false) × (before (3 ∷ 3 ∷ []) (7 ∷ []) ≡ false)
+order-strict = (refl, refl, refl, refl)
 
-abbrev pub apartCells : List Cell
-apartCells = (0, 0) ∷ (3, 0) ∷ []
-
-pub apart : ¬ Chain subset (In (map point apartCells))
-unfolding _+ᵖ_ hopeless
-apart = no-chain (In (map point apartCells)) apartCells origin 3 (placed (map point apartCells) apartCells origin refl tt tt) tt
-
-abbrev pub gapCells : List Cell
-gapCells = (0, 0) ∷ (1, 0) ∷ (3, 0) ∷ []
-
-pub gap : ¬ Chain subset (In (map point gapCells))
-unfolding _+ᵖ_ hopeless
-gap = no-chain (In (map point gapCells)) gapCells origin 3 (placed (map point gapCells) gapCells origin refl tt tt) tt
-
--- ---- eight points: stages 17, 33, 129, though the extents allow two
-
-abbrev pub eightCells : List Cell
-eightCells = (0, 0) ∷ (1, 1) ∷ (2, 1) ∷ (1, 2) ∷ (3, 2) ∷ (2, 3) ∷ (3, 3) ∷ (4, 4) ∷ []
-
-pub eight : Picked stage (In (map point eightCells)) origin (17 ∷ 33 ∷ 129 ∷ [])
-unfolding _+ᵖ_ search same stage sumCells cellSums
-eight = picked (In (map point eightCells)) eightCells origin (17 ∷ 33 ∷ 129 ∷ []) (placed (map point eightCells) eightCells origin refl tt tt) tt tt tt tt refl
-
-pub eight-extents : (max (width (map point eightCells)) (height (map point eightCells)) + 1) / 2 ≡ 2
-unfolding span
-eight-extents = refl
+-- all nine bits make a subset of the square
+subsets : (subset 511 ≡ true) × (subset 0 ≡ true) × (subset 512 ≡ false)
+subsets = (refl, refl, refl)

@@ -7,4 +7,5 @@ pub mod Search
 pub mod Placed
 pub mod Bounds
 pub mod Entries
+pub mod Measured
 pub mod Examples

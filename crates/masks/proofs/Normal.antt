@@ -10,7 +10,7 @@ use lib.ListN.{length}
 use lib.IntN.{pos}
 use Rattle.plane.specs.Lists.{In, all, upTo, keep}
 use Rattle.plane.specs.Point.{_+ᵖ_, _-ᵖ_, _≐_, moved, Cell, point}
-use Rattle.plane.proofs.Algebra.{+ᵖ-cancel, -ᵖ-cancel}
+use Rattle.plane.proofs.Algebra.{+ᵖ-cancel, subᵖ-cancel}
 use Rattle.plane.proofs.Member.{In-map, each-below}
 use Rattle.plane.proofs.Tests.{T-and, T-or, eq-eqb}
 use Rattle.masks.specs.Mask.{maskCells, stage, Mask, normalOf, columnShift, rowShift, normal, NormalPosition}
@@ -42,7 +42,7 @@ moved-cells xs s t p = (
       let q = In-map (λ c. (c .0 + s, c .1 + t)) xs (r .0) .0 (r .1) in
       In-map point xs (p -ᵖ (pos s, pos t)) .1 (q .0, q .1, ap (λ x. x -ᵖ (pos s, pos t)) (r .2 ∙ ap point (q .2)) ∙ +ᵖ-cancel (point (q .0)) (pos s, pos t)),
   λ h. let r = In-map point xs (p -ᵖ (pos s, pos t)) .0 h in
-      In-map point (map (λ c. (c .0 + s, c .1 + t)) xs) p .1 ((r .0 .0 + s, r .0 .1 + t), In-map (λ c. (c .0 + s, c .1 + t)) xs (r .0 .0 + s, r .0 .1 + t) .1 (r .0, r .1, refl), sym (-ᵖ-cancel p (pos s, pos t)) ∙ ap (λ x. x +ᵖ (pos s, pos t)) (r .2)),
+      In-map point (map (λ c. (c .0 + s, c .1 + t)) xs) p .1 ((r .0 .0 + s, r .0 .1 + t), In-map (λ c. (c .0 + s, c .1 + t)) xs (r .0 .0 + s, r .0 .1 + t) .1 (r .0, r .1, refl), sym (subᵖ-cancel p (pos s, pos t)) ∙ ap (λ x. x +ᵖ (pos s, pos t)) (r .2)),
 )
 
 -- ---- the rule of the table

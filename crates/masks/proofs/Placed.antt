@@ -12,7 +12,7 @@ use lib.ListN.{length}
 use lib.IntN.{natAbs}
 use Rattle.plane.specs.Lists.{In, any, all, upTo}
 use Rattle.plane.specs.Point.{Point, _+ᵖ_, _-ᵖ_, PointSet, _≐_, moved, Cell, point}
-use Rattle.plane.proofs.Algebra.{+ᵖ-cancel, -ᵖ-cancel, ≐-sym, ≐-trans}
+use Rattle.plane.proofs.Algebra.{+ᵖ-cancel, subᵖ-cancel, ≐-sym, ≐-trans}
 use Rattle.plane.proofs.Member.{In-map, In-any, In-all, each-below}
 use Rattle.plane.proofs.Tests.{T-and, T-dec}
 use Rattle.masks.specs.Chain.{falling, Chain, subset, PlanOf, Picked, before}
@@ -107,6 +107,6 @@ placed L A d e t u = record {
       record { x = a .0; x-in = a .1; x-zero = eqb→eq (a .0 .0) 0 (a .2); y = b .0; y-in = b .1; y-zero = eqb→eq (b .0 .1) 0 (b .2) };
   set = λ p. (
     λ h. let r = In-map (λ c. point c +ᵖ d) A p .0 (subst (λ l. In l p) e h) in In-map point A (p -ᵖ d) .1 (r .0, r .1, ap (λ x. x -ᵖ d) (r .2) ∙ +ᵖ-cancel (point (r .0)) d),
-    λ h. let r = In-map point A (p -ᵖ d) .0 h in subst (λ l. In l p) (sym e) (In-map (λ c. point c +ᵖ d) A p .1 (r .0, r .1, sym (-ᵖ-cancel p d) ∙ ap (λ x. x +ᵖ d) (r .2))),
+    λ h. let r = In-map point A (p -ᵖ d) .0 h in subst (λ l. In l p) (sym e) (In-map (λ c. point c +ᵖ d) A p .1 (r .0, r .1, sym (subᵖ-cancel p d) ∙ ap (λ x. x +ᵖ d) (r .2))),
   );
 }

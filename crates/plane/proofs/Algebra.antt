@@ -31,8 +31,8 @@ origin-+ᵖ a = +ᵖ-comm origin a ∙ +ᵖ-origin a
 pub +ᵖ-cancel : (a d : Point) → a +ᵖ d -ᵖ d ≡ a
 +ᵖ-cancel a d = +ᵖ-assoc a d (negᵖ d) ∙ ap (λ x. a +ᵖ x) (+ᵖ-neg d) ∙ +ᵖ-origin a
 
-pub -ᵖ-cancel : (a d : Point) → a -ᵖ d +ᵖ d ≡ a
--ᵖ-cancel a d = +ᵖ-assoc a (negᵖ d) d ∙ ap (λ x. a +ᵖ x) (+ᵖ-comm (negᵖ d) d ∙ +ᵖ-neg d) ∙ +ᵖ-origin a
+pub subᵖ-cancel : (a d : Point) → a -ᵖ d +ᵖ d ≡ a
+subᵖ-cancel a d = +ᵖ-assoc a (negᵖ d) d ∙ ap (λ x. a +ᵖ x) (+ᵖ-comm (negᵖ d) d ∙ +ᵖ-neg d) ∙ +ᵖ-origin a
 
 ruleset point·sort = (+ᵖ-assoc, +ᵖ-comm, +ᵖ-left)
 
@@ -70,7 +70,7 @@ pub ⊕-assoc : (X A B : PointSet) → (X ⊕ A) ⊕ B ≐ X ⊕ (A ⊕ B)
 pub ⊕-only : (X : PointSet) (d : Point) → X ⊕ only d ≐ moved d X
 ⊕-only X d p = (
   λ h. subst X (sym (+ᵖ-cancel (h .0) d) ∙ ap (λ x. x -ᵖ d) (ap (λ x. h .0 +ᵖ x) (sym (h .3)) ∙ h .4)) (h .2),
-  λ h. (p -ᵖ d, d, h, refl, -ᵖ-cancel p d),
+  λ h. (p -ᵖ d, d, h, refl, subᵖ-cancel p d),
 )
 
 -- ---- differences
@@ -104,14 +104,14 @@ moved-⊕-left d X A = ≐-trans (moved-cong d (⊕-comm X A)) (≐-trans (moved
 pub ⊖-moved : (d : Point) (X A : PointSet) (p : Point) → (X ⊖ moved d A) p ↔ (X ⊖ A) (p +ᵖ d)
 ⊖-moved d X A p = (
   λ h b k. subst X (sym (+ᵖ-assoc p d b ∙ ap (λ x. p +ᵖ x) (+ᵖ-comm d b))) (h (b +ᵖ d) (subst A (sym (+ᵖ-cancel b d)) k)),
-  λ h b k. subst X (+ᵖ-assoc p d (b -ᵖ d) ∙ ap (λ x. p +ᵖ x) (+ᵖ-comm d (b -ᵖ d) ∙ -ᵖ-cancel b d)) (h (b -ᵖ d) k),
+  λ h b k. subst X (+ᵖ-assoc p d (b -ᵖ d) ∙ ap (λ x. p +ᵖ x) (+ᵖ-comm d (b -ᵖ d) ∙ subᵖ-cancel b d)) (h (b -ᵖ d) k),
 )
 
 -- moves add up
 pub moved-moved : (d e : Point) (X : PointSet) → moved d (moved e X) ≐ moved (d +ᵖ e) X
 moved-moved d e X = ≐-trans (≐-sym (⊕-only (moved e X) d)) (≐-trans (⊕-cong (≐-sym (⊕-only X e)) (≐-refl (only d))) (≐-trans (λ p. (
   λ h. let s = h .2 in subst X (step (h .0) (h .1) (s .0) (s .1) p (s .3) (s .4) (h .3) (h .4)) (s .2),
-  λ h. ((p -ᵖ (d +ᵖ e)) +ᵖ e, d, (p -ᵖ (d +ᵖ e), e, h, refl, refl), refl, +ᵖ-assoc (p -ᵖ (d +ᵖ e)) e d ∙ ap (λ x. (p -ᵖ (d +ᵖ e)) +ᵖ x) (+ᵖ-comm e d) ∙ -ᵖ-cancel p (d +ᵖ e)),
+  λ h. ((p -ᵖ (d +ᵖ e)) +ᵖ e, d, (p -ᵖ (d +ᵖ e), e, h, refl, refl), refl, +ᵖ-assoc (p -ᵖ (d +ᵖ e)) e d ∙ ap (λ x. (p -ᵖ (d +ᵖ e)) +ᵖ x) (+ᵖ-comm e d) ∙ subᵖ-cancel p (d +ᵖ e)),
 )) (≐-refl (moved (d +ᵖ e) X))))
   where
     step : (a b u v p : Point) → v ≡ e → u +ᵖ v ≡ a → b ≡ d → a +ᵖ b ≡ p → u ≡ p -ᵖ (d +ᵖ e)
@@ -125,20 +125,20 @@ pub moved-origin : (X : PointSet) → moved origin X ≐ X
 moved-origin X p = (subst X (same p), subst X (sym (same p)))
   where
     same : (p : Point) → p -ᵖ origin ≡ p
-    same p = sym (+ᵖ-origin (p -ᵖ origin)) ∙ -ᵖ-cancel p origin
+    same p = sym (+ᵖ-origin (p -ᵖ origin)) ∙ subᵖ-cancel p origin
 
 -- opening and closing do not depend on where the set stands
 pub opening-moved : (d : Point) (X A : PointSet) → opening X (moved d A) ≐ opening X A
 opening-moved d X A p = (
   λ h. (h .0 +ᵖ d, h .1 -ᵖ d, ⊖-moved d X A (h .0) .0 (h .2), h .3, shift (h .0) (h .1) ∙ h .4),
-  λ h. (h .0 -ᵖ d, h .1 +ᵖ d, ⊖-moved d X A (h .0 -ᵖ d) .1 (subst (X ⊖ A) (sym (-ᵖ-cancel (h .0) d)) (h .2)), subst A (sym (+ᵖ-cancel (h .1) d)) (h .3), shift′ (h .0) (h .1) ∙ h .4),
+  λ h. (h .0 -ᵖ d, h .1 +ᵖ d, ⊖-moved d X A (h .0 -ᵖ d) .1 (subst (X ⊖ A) (sym (subᵖ-cancel (h .0) d)) (h .2)), subst A (sym (+ᵖ-cancel (h .1) d)) (h .3), shift′ (h .0) (h .1) ∙ h .4),
 )
   where
     shift : (a b : Point) → (a +ᵖ d) +ᵖ (b -ᵖ d) ≡ a +ᵖ b
-    shift a b = +ᵖ-assoc a d (b -ᵖ d) ∙ ap (λ x. a +ᵖ x) (+ᵖ-comm d (b -ᵖ d) ∙ -ᵖ-cancel b d)
+    shift a b = +ᵖ-assoc a d (b -ᵖ d) ∙ ap (λ x. a +ᵖ x) (+ᵖ-comm d (b -ᵖ d) ∙ subᵖ-cancel b d)
 
     shift′ : (a b : Point) → (a -ᵖ d) +ᵖ (b +ᵖ d) ≡ a +ᵖ b
-    shift′ a b = ap (λ x. (a -ᵖ d) +ᵖ x) (+ᵖ-comm b d) ∙ sym (+ᵖ-assoc (a -ᵖ d) d b) ∙ ap (λ x. x +ᵖ b) (-ᵖ-cancel a d)
+    shift′ a b = ap (λ x. (a -ᵖ d) +ᵖ x) (+ᵖ-comm b d) ∙ sym (+ᵖ-assoc (a -ᵖ d) d b) ∙ ap (λ x. x +ᵖ b) (subᵖ-cancel a d)
 
 pub closing-moved : (d : Point) (X A : PointSet) → closing X (moved d A) ≐ closing X A
 closing-moved d X A p =

@@ -3,3 +3,4 @@ pub mod Algebra
 pub mod Member
 pub mod Integer
 pub mod Extents
+pub mod Examples

@@ -30,6 +30,10 @@ pub not-not : (b : Bool) → T b → T (not (not b))
 not-not true t = tt
 not-not false t = t
 
+pub un-not : (b : Bool) → T (not (not b)) → T b
+un-not true h = tt
+un-not false h = h
+
 -- a test and its failure
 pub clash : (b : Bool) → T (not b) → T b → ⊥
 clash true p q = p

@@ -27,7 +27,7 @@ use Rattle.shapes.specs.Plan.{planWords}
 use Rattle.shapes.specs.Shape.{shapeTests, shapePoints, anchor}
 use Rattle.shapes.proofs.Accepted.{Shaped, accepted-shape}
 use Rattle.shapes.proofs.Written.{plan-length}
-use Rattle.planning.specs.Planning.{planningTests, Plans, Planned, Unplanned, Shape}
+use Rattle.planning.specs.Planning.{planningTests, Planned, PlanWritten, Unplannable, Shape}
 
 -- ---- plans and chains
 
@@ -58,12 +58,12 @@ some-point ws S =
     let d = point (S .corner) -ᵖ point (anchor ws) in
     (point c +ᵖ d, S .placed .set (point c +ᵖ d) .1 (subst (In (map point (S .cells))) (sym (+ᵖ-cancel (point c) d)) (In-map point (S .cells) (point c) .1 (c, S .placed .low .x-in, refl))))
 
-module _ (ws out : List ℕ) (e : firstOf (planningTests ws out) ≡ 0) (r : Answer) (out′ : List ℕ) (p : Plans ws out r out′) where
+module _ (ws out : List ℕ) (e : firstOf (planningTests ws out) ≡ 0) (r : Answer) (out′ : List ℕ) (p : Planned ws out r out′) where
   -- with a picked plan: its words, and their number
   pub planned : (d : Point) (ms : List ℕ) → Picked stage (Shape ws) d ms → (stated r ≡ result (length ms + 2)) × (out′ ≡ planWords d ms ++ drop (length ms + 2) out)
-  planned d ms P = go (p .works e)
+  planned d ms P = go (p .done e)
     where
-      go : Unplanned ws out r out′ ⊎ Planned ws out r out′ → (stated r ≡ result (length ms + 2)) × (out′ ≡ planWords d ms ++ drop (length ms + 2) out)
+      go : Unplannable ws out r out′ ⊎ PlanWritten ws out r out′ → (stated r ≡ result (length ms + 2)) × (out′ ≡ planWords d ms ++ drop (length ms + 2) out)
       go (inl u) = absurd (u .none (chain-of (Shape ws) d ms (P .plan)))
       go (inr w) =
           let s : w .stages ≡ ms = picked-once stage (Shape ws) (w .offset) d (w .stages) ms (w .picked) P in
@@ -72,9 +72,9 @@ module _ (ws out : List ℕ) (e : firstOf (planningTests ws out) ≡ 0) (r : Ans
 
   -- with no chain: refused 10, and nothing is written
   pub unplanned : ¬ Chain subset (Shape ws) → (stated r ≡ refusal 10) × (out′ ≡ out)
-  unplanned none = go (p .works e)
+  unplanned none = go (p .done e)
     where
-      go : Unplanned ws out r out′ ⊎ Planned ws out r out′ → (stated r ≡ refusal 10) × (out′ ≡ out)
+      go : Unplannable ws out r out′ ⊎ PlanWritten ws out r out′ → (stated r ≡ refusal 10) × (out′ ≡ out)
       go (inl u) = (u .answer, u .kept)
       go (inr w) = absurd (none (chain-of (Shape ws) (w .offset) (w .stages) (w .picked .plan)))
 
@@ -86,16 +86,16 @@ written-words ws out out′ S d ms P w =
 -- ---- the promise can be kept wherever there is a picked plan, or no chain
 
 module _ (ws out : List ℕ) (e : firstOf (planningTests ws out) ≡ 0) where
-  pub can-plan : (d : Point) (ms : List ℕ) → Picked stage (Shape ws) d ms → (r : Answer) × (out′ : List ℕ) × Plans ws out r out′
+  pub can-plan : (d : Point) (ms : List ℕ) → Picked stage (Shape ws) d ms → (r : Answer) × (out′ : List ℕ) × Planned ws out r out′
   can-plan d ms P =
       let q = some-point ws (accepted ws out e) in (
         Done (length ms + 2),
         planWords d ms ++ drop (length ms + 2) out,
         record {
-          refuses = λ n. absurd (n e);
-          works = λ _. inr (record { offset = d; stages = ms; picked = P; fewest = picked-fewest (Shape ws) (q .0) (q .1) d ms P; answer = refl; words = refl });
+          refused = λ n. absurd (n e);
+          done = λ _. inr (record { offset = d; stages = ms; picked = P; fewest = picked-fewest (Shape ws) (q .0) (q .1) d ms P; answer = refl; words = refl });
         },
       )
 
-  pub can-refuse : ¬ Chain subset (Shape ws) → (r : Answer) × (out′ : List ℕ) × Plans ws out r out′
-  can-refuse none = (Refused NoChain, out, record { refuses = λ n. absurd (n e); works = λ _. inl (record { none = none; answer = refl; kept = refl }) })
+  pub can-refuse : ¬ Chain subset (Shape ws) → (r : Answer) × (out′ : List ℕ) × Planned ws out r out′
+  can-refuse none = (Refused NoChain, out, record { refused = λ n. absurd (n e); done = λ _. inl (record { none = none; answer = refl; kept = refl }) })

@@ -9,11 +9,11 @@ use Rattle.masks.specs.Chain.{Chain, subset, Picked}
 use Rattle.masks.specs.Mask.{stage}
 use Rattle.shapes.specs.Plan.{planWords}
 use Rattle.planning.specs.Planning.{planningTests, Shape}
-use Rattle.planning.specs.Printer.{wordLines, Reads, Prints, Printing, shown, refusedLine}
+use Rattle.planning.specs.Printer.{wordLines, Reads, Printed, PrintedFor, shown, refusedLine}
 use Rattle.planning.proofs.Decided.{planned, unplanned, written-words, accepted}
 
-module _ (input output ws : List ℕ) (R : Reads input ws) (P : Prints input output) (ok : (out : List ℕ) → length out ≡ 32 → firstOf (planningTests ws out) ≡ 0) where
-  printing : Printing ws output
+module _ (input output ws : List ℕ) (R : Reads input ws) (P : Printed input output) (ok : (out : List ℕ) → length out ≡ 32 → firstOf (planningTests ws out) ≡ 0) where
+  printing : PrintedFor ws output
   printing = P .readable ws R
 
   -- the plan, a line a word

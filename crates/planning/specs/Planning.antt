@@ -7,7 +7,7 @@ use Prim.Native.Nat.{ℕ, _+_, _≤_}
 use lib.ListN.{length, drop}
 use Rattle.plane.specs.Lists.{In}
 use Rattle.plane.specs.Point.{Point, PointSet}
-use Rattle.words.specs.Ground.{Test, stated, result, refusal, Answers}
+use Rattle.words.specs.Ground.{Test, stated, result, refusal, Answered}
 use Rattle.words.specs.declared.Answer.{Answer}
 use Rattle.masks.specs.Mask.{stage}
 use Rattle.masks.specs.Chain.{Chain, subset, Picked}
@@ -31,14 +31,14 @@ abbrev pub planningTests : List ℕ → List ℕ → List Test
 planningTests ws out = shapeTests ws ++ (9, shortOutput 32 out) ∷ []
 
 -- ground 10: no chain exists. The refusal changes nothing lent
-pub record Unplanned (ws out : List ℕ) (r : Answer) (out′ : List ℕ) : Type 0 where
+pub record Unplannable (ws out : List ℕ) (r : Answer) (out′ : List ℕ) : Type 0 where
   pub none : ¬ Chain member (Shape ws)
   pub answer : stated r ≡ refusal 10
   pub kept : out′ ≡ out
 
 -- the plan was written to out, which then is out′: it is the one that is picked, no chain has fewer members, words past the list are unchanged, and the
 -- list's length is returned
-pub record Planned (ws out : List ℕ) (r : Answer) (out′ : List ℕ) : Type 0 where
+pub record PlanWritten (ws out : List ℕ) (r : Answer) (out′ : List ℕ) : Type 0 where
   pub offset : Point
   pub stages : List ℕ
   pub picked : Picked permitted (Shape ws) offset stages
@@ -47,5 +47,5 @@ pub record Planned (ws out : List ℕ) (r : Answer) (out′ : List ℕ) : Type 0
   pub words : out′ ≡ planWords offset stages ++ drop (length stages + 2) out
 
 -- what planning does with the shape list ws and the output list out
-abbrev pub Plans : List ℕ → List ℕ → Answer → List ℕ → Type 0
-Plans ws out r out′ = Answers (planningTests ws out) r (out′ ≡ out) (Unplanned ws out r out′ ⊎ Planned ws out r out′)
+abbrev pub Planned : List ℕ → List ℕ → Answer → List ℕ → Type 0
+Planned ws out r out′ = Answered (planningTests ws out) r (out′ ≡ out) (Unplannable ws out r out′ ⊎ PlanWritten ws out r out′)

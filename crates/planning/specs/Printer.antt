@@ -8,7 +8,7 @@ use lib.ListN.{length, take}
 use Rattle.plane.specs.Lists.{all, flat}
 use Rattle.words.specs.Ground.{stated}
 use Rattle.words.specs.declared.Answer.{Answer}
-use Rattle.planning.specs.Planning.{Plans}
+use Rattle.planning.specs.Planning.{Planned}
 
 -- ---- text
 
@@ -63,15 +63,15 @@ shown (zero, n) out = wordLines (take n out)
 shown (suc g, n) out = refusedLine (suc g)
 
 -- planning, given an output list of 32 words, answered r and left out′
-pub record Printing (ws output : List ℕ) : Type 0 where
+pub record PrintedFor (ws output : List ℕ) : Type 0 where
   pub out : List ℕ
   pub room : length out ≡ 32
   pub answer : Answer
   pub out′ : List ℕ
-  pub plans : Plans ws out answer out′
+  pub plans : Planned ws out answer out′
   pub prints : output ≡ shown (stated answer) out′
 
 -- if some line is otherwise, or the last has no line feed, only `unreadable` is printed; else the plan of the words, or its refusal
-pub record Prints (input output : List ℕ) : Type 0 where
+pub record Printed (input output : List ℕ) : Type 0 where
   pub unreadable : ((ws : List ℕ) → ¬ Reads input ws) → output ≡ unreadableLine
-  pub readable : (ws : List ℕ) → Reads input ws → Printing ws output
+  pub readable : (ws : List ℕ) → Reads input ws → PrintedFor ws output

@@ -12,7 +12,7 @@ use lib.Signed.{ltZ}
 use Rattle.plane.specs.Extent.{x-of, y-of, width, height, span}
 use Rattle.plane.specs.Lists.{In, any, anyNext, flat, upTo}
 use Rattle.plane.specs.Point.{Point, Cell, point, _+ᵖ_, negᵖ, _-ᵖ_}
-use Rattle.plane.proofs.Algebra.{+ᵖ-cancel, -ᵖ-cancel}
+use Rattle.plane.proofs.Algebra.{+ᵖ-cancel, subᵖ-cancel}
 use Rattle.plane.proofs.Extents.{span-near}
 use Rattle.plane.proofs.Member.{any-no, In-map, In-flat, In-keep, upTo-In, least-member}
 use Rattle.plane.proofs.Tests.{cond-ind, not-or, not-ltb, eq-eqb}
@@ -105,7 +105,7 @@ shaped ws h t =
                 ap (λ q. q -ᵖ (point k -ᵖ A)) (r .2 ∙ sym (up (r .0) (lx (r .0) (r .1)) (ly (r .0) (r .1)))) ∙ +ᵖ-cancel (point (down (r .0))) (point k -ᵖ A),
               ),
           λ i. let r = In-map point (map down (shapeCells ws)) (p -ᵖ (point k -ᵖ A)) .0 i in let s = In-map down (shapeCells ws) (r .0) .0 (r .1) in
-              In-map (λ c. point c -ᵖ A) (shapeCells ws) p .1 (s .0, s .1, sym (-ᵖ-cancel p (point k -ᵖ A)) ∙ ap (λ q. q +ᵖ (point k -ᵖ A)) (r .2 ∙ ap point (s .2)) ∙ up (s .0) (lx (s .0) (s .1)) (ly (s .0) (s .1))),
+              In-map (λ c. point c -ᵖ A) (shapeCells ws) p .1 (s .0, s .1, sym (subᵖ-cancel p (point k -ᵖ A)) ∙ ap (λ q. q +ᵖ (point k -ᵖ A)) (r .2 ∙ ap point (s .2)) ∙ up (s .0) (lx (s .0) (s .1)) (ly (s .0) (s .1))),
         );
       };
     }

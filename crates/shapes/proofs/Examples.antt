@@ -6,12 +6,11 @@ use lib.IntN.{pos}
 use lib.ListN.{replicate}
 use Rattle.plane.specs.Lists.{upTo}
 use Rattle.plane.specs.Point.{_+ᵖ_, negᵖ}
-use Rattle.words.specs.Ground.{firstOf, both}
-use Rattle.masks.specs.Chain.{sums}
-use Rattle.shapes.specs.Calls.{movedPoints}
+use Rattle.words.specs.Ground.{firstOf}
+use Rattle.shapes.specs.Calls.{movedPoints, movingTests, joiningTests, turningTests, summedPoints, joinedPoints}
 use Rattle.shapes.specs.Listed.{listed}
 use Rattle.shapes.specs.Plan.{planTests, planPoints}
-use Rattle.shapes.specs.Shape.{shapeTests, shapePoints}
+use Rattle.shapes.specs.Shape.{shapeTests, shapePoints, outOfRange}
 
 -- ---- shape lists: grounds 1 to 4, the first that holds over the whole list
 
@@ -44,9 +43,27 @@ unfolding shapeTests
 rows-rise = refl
 
 -- two lists: the second's ground 2 comes before the first's ground 3
-both-lists : firstOf (both (shapeTests (0x10000100 ∷ 0x20000001 ∷ [])) (shapeTests (0x10000000 ∷ 0x30000001 ∷ []))) ≡ 2
+both-lists : firstOf (joiningTests (0x10000100 ∷ 0x20000001 ∷ []) (0x10000000 ∷ 0x30000001 ∷ []) []) ≡ 2
 unfolding shapeTests
 both-lists = refl
+
+-- out of range comes before an output list that is too short, and is out of range one past 15
+range-first : firstOf (movingTests (0x10000000 ∷ 0x20000001 ∷ []) (pos 16, pos 0) []) ≡ 8
+unfolding shapeTests shapePoints outOfRange _+ᵖ_ negᵖ
+range-first = refl
+
+range-15 : firstOf (movingTests (0x10000000 ∷ 0x20000001 ∷ []) (pos 15, pos 0) []) ≡ 9
+unfolding shapeTests shapePoints outOfRange _+ᵖ_ negᵖ
+range-15 = refl
+
+-- an output list of 17 words is enough for a shape
+room-17 : firstOf (turningTests (0x30000000 ∷ 0x40000f0f ∷ []) (replicate 17 0)) ≡ 0
+unfolding planTests _+ᵖ_
+room-17 = refl
+
+room-16 : firstOf (turningTests (0x30000000 ∷ 0x40000f0f ∷ []) (replicate 16 0)) ≡ 9
+unfolding planTests _+ᵖ_
+room-16 = refl
 
 -- ---- plan lists: grounds 1 to 3 and 5 to 8
 
@@ -59,6 +76,10 @@ count-first = refl
 place-30 : firstOf (planTests (0x30000000 ∷ 0x40001e1e ∷ [])) ≡ 0
 unfolding planTests _+ᵖ_
 place-30 = refl
+
+place-31-x : firstOf (planTests (0x30000001 ∷ 0x40000f1f ∷ 0x50000001 ∷ [])) ≡ 6
+unfolding planTests
+place-31-x = refl
 
 place-31 : firstOf (planTests (0x30000001 ∷ 0x40001f0f ∷ 0x50000001 ∷ [])) ≡ 6
 unfolding planTests
@@ -78,6 +99,15 @@ sixteen : firstOf (planTests (0x30000008 ∷ 0x40000f0f ∷ replicate 8 0x500000
 unfolding planTests _+ᵖ_
 sixteen = refl
 
+-- w = 16 gives 8 though x is −1 to 15, and so does h = 16
+wide-16 : firstOf (planTests (0x30000008 ∷ 0x40000f0e ∷ replicate 8 0x50000005)) ≡ 8
+unfolding planTests _+ᵖ_
+wide-16 = refl
+
+high-16 : firstOf (planTests (0x30000008 ∷ 0x40000e0f ∷ replicate 8 0x50000041)) ≡ 8
+unfolding planTests _+ᵖ_
+high-16 = refl
+
 -- with the offset 2 an x of 16 is reached
 too-far : firstOf (planTests (0x30000007 ∷ 0x40000f11 ∷ replicate 7 0x50000005)) ≡ 8
 unfolding planTests _+ᵖ_
@@ -94,13 +124,22 @@ anchor-least : listed (shapePoints (0x10000022 ∷ 0x20030008 ∷ [])) ≡ (0x10
 unfolding listed shapePoints _+ᵖ_ negᵖ
 anchor-least = refl
 
-moved-listed : listed (movedPoints (pos 2, pos 3) (shapePoints (0x10000000 ∷ 0x20000005 ∷ []))) ≡ (0x10000000 ∷ 0x20030014 ∷ [])
+-- column 15 and row 15 are in the window
+last-listed : listed (shapePoints (0x10000000 ∷ 0x20008000 ∷ 0x200f0001 ∷ [])) ≡ (0x10000000 ∷ 0x20008000 ∷ 0x200f0001 ∷ [])
+unfolding listed shapePoints _+ᵖ_ negᵖ
+last-listed = refl
+
+moved-listed : listed (movedPoints (0x10000000 ∷ 0x20000005 ∷ []) (pos 2, pos 3)) ≡ (0x10000000 ∷ 0x20030014 ∷ [])
 unfolding listed shapePoints _+ᵖ_ negᵖ
 moved-listed = refl
 
-summed-listed : listed (sums (shapePoints (0x10000001 ∷ 0x20000005 ∷ [])) (shapePoints (0x10000000 ∷ 0x20000001 ∷ 0x20020001 ∷ []))) ≡ (0x10000001 ∷ 0x20000005 ∷ 0x20020005 ∷ [])
+summed-listed : listed (summedPoints (0x10000001 ∷ 0x20000005 ∷ []) (0x10000000 ∷ 0x20000001 ∷ 0x20020001 ∷ [])) ≡ (0x10000001 ∷ 0x20000005 ∷ 0x20020005 ∷ [])
 unfolding listed shapePoints _+ᵖ_ negᵖ
 summed-listed = refl
+
+joined-listed : listed (joinedPoints (0x10000001 ∷ 0x20000005 ∷ []) (0x10000000 ∷ 0x20000001 ∷ 0x20020001 ∷ [])) ≡ (0x10000001 ∷ 0x20000007 ∷ 0x20020002 ∷ [])
+unfolding listed shapePoints _+ᵖ_ negᵖ
+joined-listed = refl
 
 -- a plan turned back: stages 3 and 5 at the offset (−1, 2)
 plan-listed : listed (planPoints (0x30000002 ∷ 0x4000110e ∷ 0x50000003 ∷ 0x50000005 ∷ [])) ≡ (0x10000001 ∷ 0x2002000f ∷ [])

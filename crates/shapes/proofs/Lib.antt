@@ -1,5 +1,5 @@
 pub mod Accepted
-pub mod Written
 pub mod Digits
 pub mod Listed
+pub mod Written
 pub mod Examples

@@ -10,19 +10,22 @@ use lib.IntN.{ℤ, pos, _+ℤ_, _-ℤ_, natAbs, +ℤ-negℤ-cancel}
 use lib.ListN.{length, getD, length-map}
 use Rattle.plane.specs.Lists.{In, any, all}
 use Rattle.plane.specs.Point.{Point, Cell, point, _+ᵖ_, negᵖ, _-ᵖ_, _≐_, moved}
-use Rattle.plane.proofs.Algebra.{+ᵖ-cancel, -ᵖ-cancel, +ᵖ-comm, ≐-trans, ≐-sym}
+use Rattle.plane.proofs.Algebra.{+ᵖ-cancel, subᵖ-cancel, +ᵖ-comm, ≐-trans, ≐-sym}
 use Rattle.plane.proofs.Member.{any-no, In-map, In-all}
-use Rattle.plane.proofs.Tests.{not-or, not-ltb, not-not, eq-eqb}
+use Rattle.plane.proofs.Tests.{not-or, not-ltb, not-not, eq-eqb, un-not}
 use Rattle.words.specs.Word.{wrongKind, extraBit, headKind, placeKind, stageKind, headCount, placeX, placeY, stageMask, placeWord, stageWord}
 use Rattle.words.proofs.Refusals.{Clear}
 use Rattle.words.proofs.Words.{Fine, head-fine, place-fine, stage-fine, head-count, place-x, place-y, stage-mask}
 use Rattle.masks.specs.Chain.{sumOf, falling, PlanOf}
 use Rattle.masks.specs.Mask.{stage}
+use Rattle.masks.proofs.Bounds.{forced}
 use Rattle.masks.proofs.Cells.{stage-below, sumCells, sum-far}
 use Rattle.masks.proofs.Placed.{plan-cells}
+use Rattle.shapes.specs.Listed.{leastAnchor, below, listed}
 use Rattle.shapes.specs.Plan.{planWords, planOffset, planMasks, planPoints, planTests, stageWords, wrongMasks}
 use Rattle.shapes.specs.Shape.{outOfRange, anchor, shapePoints}
 use Rattle.shapes.proofs.Accepted.{Shaped, in-range, biased}
+use Rattle.shapes.proofs.Listed.{listed-same}
 
 -- ---- any plan list
 
@@ -33,8 +36,20 @@ plan-points ws p =
     let d = planOffset ws in
     let S = sumOf (planMasks ws) in (
       λ h. let r = In-map (λ q. d +ᵖ q) S p .0 h in subst (In S) (sym (ap (λ q. q -ᵖ d) (r .2 ∙ +ᵖ-comm d (r .0)) ∙ +ᵖ-cancel (r .0) d)) (r .1),
-      λ h. In-map (λ q. d +ᵖ q) S p .1 (p -ᵖ d, h, sym (+ᵖ-comm d (p -ᵖ d) ∙ -ᵖ-cancel p d)),
+      λ h. In-map (λ q. d +ᵖ q) S p .1 (p -ᵖ d, h, sym (+ᵖ-comm d (p -ᵖ d) ∙ subᵖ-cancel p d)),
     )
+
+-- a plan list whose masks are stages, never falling, is a plan of its points; its offset is their least x and least y, so the least anchor of the list
+-- that it is turned back into is 0 or −dx, the greater
+pub plan-itself : (ws : List ℕ) → T (not (wrongMasks (planMasks ws))) → PlanOf stage (In (planPoints ws)) (planOffset ws) (planMasks ws)
+plan-itself ws t =
+    let ms = planMasks ws in
+    let u = not-or (not (all stage ms)) (falling ms) .0 t in
+    record { stages = un-not (all stage ms) (u .0); sorted = u .1; sum = plan-points ws }
+
+pub plan-anchor : (ws : List ℕ) → T (not (wrongMasks (planMasks ws))) → leastAnchor (planPoints ws) ≡ (below (planOffset ws .0), below (planOffset ws .1))
+unfolding leastAnchor
+plan-anchor ws t = ap (λ c. (below (c .0), below (c .1))) (sym (forced (planPoints ws) (planOffset ws) (planMasks ws) (plan-itself ws t)))
 
 -- ---- any plan whose numbers fit their fields
 
@@ -180,3 +195,7 @@ module _ (ws : List ℕ) (S : Shaped ws) (d : Point) (ms : List ℕ) (P : PlanOf
   plan-clear =
       let F = fields in
       words-clear d ms (F .px) (F .py) (F .ex) (F .ey) (F .hx) (F .hy) (P .stages) few (P .sorted) (in-range ws (planPoints (planWords d ms)) (λ p. plan-stands p .0))
+
+  -- turned back, they are listed as the shape's points are
+  pub plan-listed : listed (planPoints (planWords d ms)) ≡ listed (shapePoints ws)
+  plan-listed = listed-same (planPoints (planWords d ms)) (shapePoints ws) plan-stands

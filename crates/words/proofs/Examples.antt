@@ -1,8 +1,48 @@
--- The first test that holds is the answer, in one list and in two.
+-- Worked cases of words and of the order of grounds.
 use mathlib.Core.Path.{_≡_, refl}
 use mathlib.Core.Bool.{true, false}
 use mathlib.Core.List.{[], _∷_}
 use Rattle.words.specs.Ground.{firstOf, both}
+use Rattle.words.specs.Word.{kind, anchorKind, rowKind, headKind, placeKind, stageKind, anchorX, anchorY, anchorWord, rowY, rowColumns, rowWord, headCount, headWord, placeX, placeY, placeWord, stageMask, stageWord, extraBit}
+
+-- ---- words
+
+kinds : (kind 0x1fffffff ≡ 1) × (kind 0x50000000 ≡ 5) × (kind 0xffffffff ≡ 15)
+kinds = (refl, refl, refl)
+
+-- the anchor (10, 11), the row 12 with columns 0 and 15, the head 13, the place (14, 15), the mask 256
+fields-anchor : (anchorX 0x100000ba ≡ 10) × (anchorY 0x100000ba ≡ 11) × (anchorWord 10 11 ≡ 0x100000ba)
+fields-anchor = (refl, refl, refl)
+
+fields-row : (rowY 0x200c8001 ≡ 12) × (rowColumns 0x200c8001 ≡ (0 ∷ 15 ∷ [])) × (rowWord 12 0x8001 ≡ 0x200c8001)
+fields-row = (refl, refl, refl)
+
+fields-head : (headCount 0x3000000d ≡ 13) × (headWord 13 ≡ 0x3000000d)
+fields-head = (refl, refl)
+
+fields-place : (placeX 0x40000f0e ≡ 14) × (placeY 0x40000f0e ≡ 15) × (placeWord 14 15 ≡ 0x40000f0e)
+fields-place = (refl, refl, refl)
+
+fields-stage : (stageMask 0x50000100 ≡ 256) × (stageWord 256 ≡ 0x50000100)
+fields-stage = (refl, refl)
+
+-- each kind's highest named bit passes ground 3, the next one does not
+named-anchor : (extraBit anchorKind 0x10000080 ≡ false) × (extraBit anchorKind 0x10000100 ≡ true)
+named-anchor = (refl, refl)
+
+named-row : (extraBit rowKind 0x20080000 ≡ false) × (extraBit rowKind 0x20100000 ≡ true)
+named-row = (refl, refl)
+
+named-head : (extraBit headKind 0x30000080 ≡ false) × (extraBit headKind 0x30000100 ≡ true)
+named-head = (refl, refl)
+
+named-place : (extraBit placeKind 0x40008000 ≡ false) × (extraBit placeKind 0x40010000 ≡ true)
+named-place = (refl, refl)
+
+named-stage : (extraBit stageKind 0x50000100 ≡ false) × (extraBit stageKind 0x50000200 ≡ true)
+named-stage = (refl, refl)
+
+-- ---- the first test that holds is the answer, in one list and in two
 
 first : firstOf ((1, false) ∷ (2, true) ∷ (3, true) ∷ []) ≡ 2
 first = refl

@@ -55,6 +55,6 @@ both (t ∷ ts) [] = t ∷ ts
 both (t ∷ ts) (u ∷ us) = (t .0, t .1 || u .1) ∷ both ts us
 
 -- what a call with these tests does: where one holds, the first is the answer and all that is lent stays as it is; else the call does its work
-pub record Answers (tests : List Test) (r : Answer) (Unchanged Works : Type 0) : Type 0 where
-  pub refuses : firstOf tests ≢ 0 → (stated r ≡ refusal (firstOf tests)) × Unchanged
-  pub works : firstOf tests ≡ 0 → Works
+pub record Answered (tests : List Test) (r : Answer) (Unchanged Work : Type 0) : Type 0 where
+  pub refused : firstOf tests ≢ 0 → (stated r ≡ refusal (firstOf tests)) × Unchanged
+  pub done : firstOf tests ≡ 0 → Work

@@ -18,7 +18,7 @@ use Rattle.words.proofs.Refusals.{clear, unclear, clear-append}
 use Rattle.masks.specs.Chain.{Picked, Chain, subset}
 use Rattle.masks.specs.Mask.{stage, maskCells}
 use Rattle.masks.proofs.Cells.{sumCells, cellSums}
-use Rattle.masks.proofs.Examples.{one, four, four-order, four-other, apart, gap, eight}
+use Rattle.masks.proofs.Measured.{one, four, four-order, four-other, apart, gap, eight}
 use Rattle.masks.proofs.Placed.{picked, placed}
 use Rattle.masks.proofs.Search.{search, same}
 use Rattle.shapes.specs.Calls.{shortOutput}
@@ -38,7 +38,7 @@ use Rattle.cleaning.specs.Operation.{inTurn, lastGrid, Direct}
 use Rattle.cleaning.proofs.Kept.{can-clean}
 use Rattle.cleaning.proofs.Plans.{binary}
 use Rattle.cleaning.proofs.Turn.{turn-direct}
-use Rattle.claim.specs.Measured.{PlansAs, RefusedTen, CleansAs, Measured, fourWords, fourInput, threeWords, twoWords, rightWords, eightWords}
+use Rattle.claim.specs.Measured.{PlannedAs, RefusedTen, CleanedAs, Measured, fourWords, fourInput, threeWords, twoWords, rightWords, eightWords}
 use Rattle.claim.proofs.Demands.{runs, agrees}
 
 -- ---- planning
@@ -53,7 +53,7 @@ module _ (ws : List ℕ) (d : Point) (ms : List ℕ) (e : firstOf (shapeTests ws
   count : length ms + 2 ≡ length (planWords d ms)
   count = let l = length-map ms stageWord in omega arith
 
-  plans-as : PlansAs ws (planWords d ms)
+  plans-as : PlannedAs ws (planWords d ms)
   plans-as = record {
     accepted = accepts ws e;
     possible = λ out h. can-plan ws out (accepts ws e out h) d ms P;
@@ -92,7 +92,7 @@ row-accepted f i j b c h k =
     one n = omega arith
 
 cleans-as : (op : Operation) (ws : List ℕ) (d : Point) (ms f r : List ℕ) → firstOf (shapeTests ws) ≡ 0 → Picked stage (Shape ws) d ms
-    → T (not (badSize (length f) 1)) → T (not (badCell f)) → inTurn op (length f) 1 f d ms ≡ r → CleansAs op ws (planWords d ms) f r
+    → T (not (badSize (length f) 1)) → T (not (badCell f)) → inTurn op (length f) 1 f d ms ≡ r → CleanedAs op ws (planWords d ms) f r
 unfolding shapeTests
 cleans-as op ws d ms f r e P b c t =
     let S = accepted-shape ws (clear (shapeTests ws) tt e) in

@@ -1,0 +1,89 @@
+-- Worked cases of the operations: the part and the image that holds it, the number of stages run, and what the single stages give in turn.
+use mathlib.Core.Path.{_≡_, refl}
+use mathlib.Core.List.{[], _∷_}
+use lib.IntN.{pos}
+use lib.ListN.{replicate}
+use Rattle.cleaning.specs.declared.Operation.the-variants.{Dilation, Erosion, Opening, Closing}
+use Rattle.plane.specs.Point.{_+ᵖ_, negᵖ}
+use Rattle.words.specs.Ground.{firstOf}
+use Rattle.masks.specs.Mask.{maskCells}
+use Rattle.shapes.specs.Plan.{planTests}
+use Rattle.grids.specs.Grid.{once}
+use Rattle.grids.specs.Image.{cells, valueAt}
+use Rattle.cleaning.specs.Cleaning.{part, stagesRun, operationTests, workTests}
+use Rattle.cleaning.specs.Operation.{inTurn, lastGrid}
+
+-- ---- the part: the second image if the number is even, the first if odd
+
+part-even : part 2 2 1 (5 ∷ 6 ∷ 7 ∷ []) (8 ∷ 9 ∷ 10 ∷ []) ≡ 8 ∷ 9 ∷ []
+unfolding part
+part-even = refl
+
+part-odd : part 3 2 1 (5 ∷ 6 ∷ 7 ∷ []) (8 ∷ 9 ∷ 10 ∷ []) ≡ 5 ∷ 6 ∷ []
+unfolding part
+part-odd = refl
+
+-- empty if W or H isn't 1 to 240, or the image holds fewer than W × H bytes; the other image does not count
+part-wide : part 0 241 0 [] (8 ∷ []) ≡ []
+unfolding part
+part-wide = refl
+
+part-high : part 0 1 241 [] (replicate 241 8) ≡ []
+unfolding part
+part-high = refl
+
+part-short : part 0 2 1 (5 ∷ 6 ∷ []) (8 ∷ []) ≡ []
+unfolding part
+part-short = refl
+
+part-other : part 0 2 1 [] (8 ∷ 9 ∷ []) ≡ 8 ∷ 9 ∷ []
+unfolding part
+part-other = refl
+
+-- ---- opening and closing run 2n stages
+
+runs-of-three : (stagesRun Dilation 3 ≡ 3) × (stagesRun Erosion 3 ≡ 3) × (stagesRun Opening 3 ≡ 6) × (stagesRun Closing 3 ≡ 6)
+runs-of-three = (refl, refl, refl, refl)
+
+-- ---- grounds: those of the plan, then those of the frame and the images
+
+plan-first : firstOf (operationTests [] 0 1 [] [] []) ≡ 1
+unfolding planTests workTests
+plan-first = refl
+
+first-short : firstOf (operationTests (0x30000000 ∷ 0x40000f0f ∷ []) 1 1 (1 ∷ []) (replicate 255 7) (replicate 256 7)) ≡ 14
+unfolding planTests workTests _+ᵖ_
+first-short = refl
+
+second-short : firstOf (operationTests (0x30000000 ∷ 0x40000f0f ∷ []) 1 1 (1 ∷ []) (replicate 256 7) (replicate 255 7)) ≡ 14
+unfolding planTests workTests _+ᵖ_
+second-short = refl
+
+images-dirty : firstOf (operationTests (0x30000000 ∷ 0x40000f0f ∷ []) 1 1 (1 ∷ []) (replicate 256 7) (replicate 256 7)) ≡ 0
+unfolding planTests workTests _+ᵖ_
+images-dirty = refl
+
+-- ---- in turn
+
+-- 1 0 1 closed by three columns: nothing is cut between the stages
+closed : inTurn Closing 3 1 (1 ∷ 0 ∷ 1 ∷ []) (pos 0, pos 0) (7 ∷ []) ≡ 1 ∷ 1 ∷ 1 ∷ []
+unfolding inTurn lastGrid once cells valueAt maskCells _+ᵖ_ negᵖ
+closed = refl
+
+-- and opened
+opened : inTurn Opening 3 1 (1 ∷ 0 ∷ 1 ∷ []) (pos 0, pos 0) (7 ∷ []) ≡ 0 ∷ 0 ∷ 0 ∷ []
+unfolding inTurn lastGrid once cells valueAt maskCells _+ᵖ_ negᵖ
+opened = refl
+
+-- the offset (1, 0) moves a dilation to the right and an erosion to the left; an offset does not move an opening
+dilated-right : inTurn Dilation 3 1 (0 ∷ 1 ∷ 0 ∷ []) (pos 1, pos 0) [] ≡ 0 ∷ 0 ∷ 1 ∷ []
+unfolding inTurn lastGrid once cells valueAt _+ᵖ_ negᵖ
+dilated-right = refl
+
+eroded-left : inTurn Erosion 3 1 (0 ∷ 1 ∷ 0 ∷ []) (pos 1, pos 0) [] ≡ 1 ∷ 0 ∷ 0 ∷ []
+unfolding inTurn lastGrid once cells valueAt _+ᵖ_ negᵖ
+eroded-left = refl
+
+opened-still : inTurn Opening 3 1 (0 ∷ 1 ∷ 0 ∷ []) (pos 1, pos 0) [] ≡ 0 ∷ 1 ∷ 0 ∷ []
+unfolding inTurn lastGrid once cells valueAt _+ᵖ_ negᵖ
+opened-still = refl

@@ -1,0 +1,125 @@
+-- Worked cases of frames and grids: where the bounds lie, which ground comes first, and what the load, putting and the single stage give.
+use mathlib.Core.Path.{_≡_, refl}
+use mathlib.Core.Bool.{true, false}
+use mathlib.Core.List.{List, [], _∷_, _++_}
+use Prim.Native.Nat.{ℕ}
+use lib.ListN.{take, drop, replicate}
+use Rattle.plane.specs.Point.{_+ᵖ_, negᵖ}
+use Rattle.words.specs.Ground.{firstOf}
+use Rattle.masks.specs.Mask.{maskCells, stage}
+use Rattle.grids.specs.Frame.{frameTests, load, free, full}
+use Rattle.grids.specs.Grid.{putTests, stageTests, put, once}
+use Rattle.grids.specs.Image.{cells, valueAt}
+
+-- ---- grounds
+
+-- 240 columns pass, 241 give 11, before the length that isn't 241 × 1
+side-240 : firstOf (frameTests 240 1 (replicate 240 0)) ≡ 0
+unfolding frameTests
+side-240 = refl
+
+side-241 : firstOf (frameTests 241 1 []) ≡ 11
+unfolding frameTests
+side-241 = refl
+
+-- no columns give 11, a wrong length comes before a cell above 1
+side-0 : firstOf (frameTests 0 1 []) ≡ 11
+unfolding frameTests
+side-0 = refl
+
+length-first : firstOf (frameTests 2 1 (2 ∷ [])) ≡ 12
+unfolding frameTests
+length-first = refl
+
+-- a cell above 1 comes before an image that is too short
+cell-first : firstOf (putTests 1 1 (2 ∷ []) []) ≡ 13
+unfolding putTests
+cell-first = refl
+
+image-255 : firstOf (putTests 1 1 (1 ∷ []) (replicate 255 7)) ≡ 14
+unfolding putTests
+image-255 = refl
+
+image-256 : firstOf (putTests 1 1 (1 ∷ []) (replicate 256 7)) ≡ 0
+unfolding putTests
+image-256 = refl
+
+-- a single stage: a plan's place word, a bit too many, a mask that isn't normal, no columns, a byte above 1 as far as the image goes, two short images
+stage-kind : firstOf (stageTests 0x40000003 0 1 (2 ∷ []) []) ≡ 2
+unfolding stageTests
+stage-kind = refl
+
+stage-bit : firstOf (stageTests 0x50000202 0 1 (2 ∷ []) []) ≡ 3
+unfolding stageTests
+stage-bit = refl
+
+stage-normal : firstOf (stageTests 0x50000002 0 1 (2 ∷ []) []) ≡ 7
+unfolding stageTests stage
+stage-normal = refl
+
+stage-size : firstOf (stageTests 0x50000003 0 1 (2 ∷ []) []) ≡ 11
+unfolding stageTests stage
+stage-size = refl
+
+stage-cell : firstOf (stageTests 0x50000003 1 1 (2 ∷ []) []) ≡ 13
+unfolding stageTests stage
+stage-cell = refl
+
+-- bytes past the grid are not looked at; both images count
+stage-past : firstOf (stageTests 0x50000003 1 1 (replicate 256 0 ++ 2 ∷ []) (replicate 256 7)) ≡ 0
+unfolding stageTests stage
+stage-past = refl
+
+stage-first : firstOf (stageTests 0x50000003 1 1 (replicate 255 0) (replicate 256 7)) ≡ 14
+unfolding stageTests stage
+stage-first = refl
+
+stage-second : firstOf (stageTests 0x50000003 1 1 (replicate 256 0) (replicate 255 7)) ≡ 14
+unfolding stageTests stage
+stage-second = refl
+
+-- ---- what the calls give
+
+load-two : load (1 ∷ 0 ∷ 1 ∷ []) ≡ 2
+unfolding load
+load-two = refl
+
+-- a frame of one cell: the rest of its grid, 16 columns and 16 rows, is 0
+put-one : put 1 1 (1 ∷ []) ≡ 1 ∷ replicate 255 0
+unfolding put cells valueAt
+put-one = refl
+
+-- row 0 first: the cell (1, 0) of a frame of two columns
+put-row : take 2 (put 2 2 (0 ∷ 1 ∷ 0 ∷ 0 ∷ [])) ≡ 0 ∷ 1 ∷ []
+unfolding put cells valueAt
+put-row = refl
+
+-- one occupied cell (1, 1), dilated and eroded by the mask of cells 0 and 1 of a row, and of cells 0 and 3 of a column
+one-cell : List ℕ
+one-cell = put 2 2 (0 ∷ 0 ∷ 0 ∷ 1 ∷ [])
+
+dilated-row : take 3 (drop 17 (once false free 2 2 3 one-cell)) ≡ 0 ∷ 1 ∷ 1 ∷ []
+unfolding one-cell once put cells valueAt maskCells _+ᵖ_ negᵖ
+dilated-row = refl
+
+dilated-column : take 3 (drop 34 (once false free 2 2 9 one-cell)) ≡ 0 ∷ 1 ∷ 0 ∷ []
+unfolding one-cell once put cells valueAt maskCells _+ᵖ_ negᵖ
+dilated-column = refl
+
+eroded-free : take 3 (drop 17 (once true free 2 2 3 one-cell)) ≡ 0 ∷ 0 ∷ 0 ∷ []
+unfolding one-cell once put cells valueAt maskCells _+ᵖ_ negᵖ
+eroded-free = refl
+
+-- two occupied cells (0, 1) and (1, 1) eroded by a row of two: the left one stays
+eroded-row : take 3 (drop 17 (once true free 2 2 3 (put 2 2 (0 ∷ 0 ∷ 1 ∷ 1 ∷ [])))) ≡ 1 ∷ 0 ∷ 0 ∷ []
+unfolding once put cells valueAt maskCells _+ᵖ_ negᵖ
+eroded-row = refl
+
+-- the value outside is read there: eroded with occupied cells outside, the last column of a full grid stays
+outside-read : take 1 (drop 15 (once true full 1 1 3 (replicate 256 1))) ≡ 1 ∷ []
+unfolding once cells valueAt maskCells _+ᵖ_ negᵖ
+outside-read = refl
+
+outside-free : take 1 (drop 15 (once true free 1 1 3 (replicate 256 1))) ≡ 0 ∷ []
+unfolding once cells valueAt maskCells _+ᵖ_ negᵖ
+outside-free = refl
