@@ -1,4 +1,5 @@
--- The owner's demands 2 and 3 on planning and cleaning, as types: what follows from the promises of the calls.
+-- The owner's demands 2 and 3 on planning and cleaning, as types: what follows from the promises of the calls. Demand 1 is the record `Answered` of words,
+-- of which every promise is made: a result or the first ground that holds, and a refusal changes nothing lent.
 use mathlib.Core.Path.{_≡_}
 use mathlib.Core.Logic.{_⊎_, _↔_}
 use mathlib.Core.List.{List, _++_}
@@ -24,8 +25,8 @@ Demand2 =
     → firstOf (operationTests plan W H f i j) ≡ 0
     → Direct op W H f (In (planPoints plan)) (part (stated s .1) W H i′ j′)
 
--- an operation that was given a plan of m stages with the offset d: it doesn't refuse, it answers the number of stages run, and the part handed back for
--- that number is, cell for cell, both what the single stages give in turn and what the shape list ws gives directly
+-- an operation that was given the plan of the stages ms with the offset d: it doesn't refuse, it answers the number of stages run, and the part handed
+-- back for that number is, cell for cell, both what the single stages give in turn and what the shape list ws gives directly
 pub record Agrees (op : Operation) (ws : List ℕ) (d : Point) (ms : List ℕ) (W H : ℕ) (f : List ℕ) (s : Answer) (i′ j′ : List ℕ) : Type 0 where
   pub answer : stated s ≡ result (stagesRun op (length ms))
   pub turns : part (stated s .1) W H i′ j′ ≡ inTurn op W H f d ms

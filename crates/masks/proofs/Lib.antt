@@ -1,5 +1,6 @@
 pub mod Sum
 pub mod Cells
+pub mod Subsets
 pub mod Normal
 pub mod Reduce
 pub mod Order

@@ -20,7 +20,7 @@ maskPoints m = map point (maskCells m)
 abbrev pub Mask : ℕ → PointSet
 Mask m = In (maskPoints m)
 
--- some cell has i = 0, or j = 0
+-- some cell is in column i, or in row j
 abbrev pub hasColumn : ℕ → ℕ → Bool
 hasColumn i m = any (λ c. eqb (c .0) i) (maskCells m)
 

@@ -3,7 +3,7 @@ use mathlib.Core.Path.{_≡_}
 use mathlib.Core.Logic.{_⊎_}
 use mathlib.Core.Bool.{Bool, true, false, cond, _&&_, _||_}
 use mathlib.Core.List.{List, [], _∷_, _++_, map}
-use Prim.Native.Nat.{ℕ, zero, suc, _/_, _%_, _^_}
+use Prim.Native.Nat.{ℕ, zero, suc, _+_, _*_, _/_, _%_, _^_}
 use lib.Dec.{eqb}
 
 module _ {A : Type 0} where
@@ -47,3 +47,8 @@ upTo n = countFrom 0 n
 -- the numbers, below n, of the bits that are set in w; bit 0 is the lowest
 abbrev pub bits : ℕ → ℕ → List ℕ
 bits n w = keep (λ k. eqb (w / 2 ^ k % 2) 1) (upTo n)
+
+-- the number whose n lowest bits are given by b, from b k on
+unfoldable pub packed : (ℕ → Bool) → ℕ → ℕ → ℕ
+packed b k zero = 0
+packed b k (suc n) = cond (b k) 1 0 + 2 * packed b (suc k) n

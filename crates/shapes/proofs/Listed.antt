@@ -3,7 +3,7 @@ use mathlib.Core.Path.{_≡_, refl, sym, _∙_, ap, ap₂, subst, fun-ext}
 use mathlib.Core.Logic.{_↔_, inl, inr}
 use mathlib.Core.Bool.{Bool, true, false, not, _&&_, _||_}
 use mathlib.Core.List.{List, [], _∷_, map}
-use Prim.Native.Nat.{ℕ, zero, suc, _+_, _≤_, _<_, zero-le, suc-le-suc}
+use Prim.Native.Nat.{ℕ, zero, suc, _+_, _*_, _≤_, _<_, zero-le, suc-le-suc}
 use native.Mathlib.Omega.{arith}
 use native.Mathlib.Nat.{le-refl, le-trans, le-suc}
 use native.Mathlib.Numerals.{add-one}
@@ -12,8 +12,9 @@ use lib.IntN.{ℤ, pos, negsuc, _+ℤ_, _-ℤ_, +ℤ-idr, +ℤ-negℤ-cancel}
 use lib.Signed.{ltZ, _≤ℤ_}
 use lib.ListN.{length, getD, length-map}
 use Rattle.plane.specs.Extent.{x-of, y-of, width, height, span, least, corner}
-use Rattle.plane.specs.Lists.{In, any, anyNext, keep, upTo, countFrom}
+use Rattle.plane.specs.Lists.{In, any, anyNext, keep, upTo, countFrom, packed}
 use Rattle.plane.specs.Point.{Point, Cell, point, _+ᵖ_, negᵖ, _-ᵖ_, _≐_}
+use Rattle.plane.proofs.Bits.{packed-below, bits-packed}
 use Rattle.plane.proofs.Extents.{least-same, least-le, least-in, span-far}
 use Rattle.plane.proofs.Integer.{≤ℤ-from, +ℤ-less}
 use Rattle.plane.proofs.Member.{any-no, no-any, In-map, In-flat, In-keep, In-any, upTo-In, In-upTo, countFrom-In}
@@ -21,9 +22,8 @@ use Rattle.plane.proofs.Tests.{cond-ind, not-or, not-ltb, not-leb, T-and}
 use Rattle.words.specs.Word.{rowY, rowColumns, anchorWord, rowWord, anchorKind, rowKind, wrongKind, extraBit}
 use Rattle.words.proofs.Refusals.{Clear}
 use Rattle.words.proofs.Words.{Fine, anchor-x, anchor-y, row-y, anchor-fine, row-fine}
-use Rattle.shapes.specs.Listed.{eqZ, has, below, leastAnchor, packed, column, rowOf, hasCells, listed}
+use Rattle.shapes.specs.Listed.{eqZ, has, below, leastAnchor, column, rowOf, hasCells, listed}
 use Rattle.shapes.specs.Shape.{anchor, rows, rowCells, shapeCells, shapePoints, emptyRow, notRising, shapeTests, outOfRange, tooFar}
-use Rattle.shapes.proofs.Digits.{packed-below, row-columns}
 
 -- ---- membership that is computed
 
@@ -127,6 +127,13 @@ length-keep f (x ∷ xs) = cond-ind (f x) (x ∷ keep f xs) (keep f xs) (λ l. l
 some-length : {A : Type 0} (l : List A) (a : A) → In l a → 1 ≤ length l
 some-length [] a h = absurd h
 some-length (x ∷ xs) a h = suc-le-suc zero-le
+
+-- the columns of a row word are the bits that it was packed from
+row-columns : (b : ℕ → Bool) (y x : ℕ) → In (rowColumns (rowWord y (packed b 0 16))) x ↔ ((x < 16) × T (b x))
+row-columns b y x = subst (λ w. In (rowColumns w) x ↔ ((x < 16) × T (b x))) (sym (top y (packed b 0 16))) (bits-packed b 16 (8192 + y) x)
+  where
+    top : (y c : ℕ) → rowWord y c ≡ 65536 * (8192 + y) + c
+    top y c = omega arith
 
 -- ---- the list of points in range
 

@@ -1,11 +1,11 @@
 -- Document 01, "Stages and plans" and "Words": the list of a set of points, with the least anchor.
-use mathlib.Core.Bool.{Bool, true, false, cond, _&&_}
+use mathlib.Core.Bool.{Bool, false, _&&_}
 use mathlib.Core.List.{List, [], _∷_, map}
-use Prim.Native.Nat.{ℕ, zero, suc, _+_, _*_}
+use Prim.Native.Nat.{ℕ, _+_}
 use lib.Dec.{eqb}
 use lib.IntN.{ℤ, pos, negsuc}
 use Rattle.plane.specs.Extent.{least, corner}
-use Rattle.plane.specs.Lists.{any, keep, upTo}
+use Rattle.plane.specs.Lists.{any, keep, upTo, packed}
 use Rattle.plane.specs.Point.{Point, Cell, point, _-ᵖ_}
 use Rattle.words.specs.Word.{anchorWord, rowWord}
 
@@ -29,11 +29,6 @@ below (negsuc n) = n + 1
 unfoldable pub leastAnchor : List Point → Cell
 unfolding least
 leastAnchor A = (below (corner A .0), below (corner A .1))
-
--- the number whose bits k, k + 1, .. , n in all, are given, counted from its bit 0
-unfoldable pub packed : (ℕ → Bool) → ℕ → ℕ → ℕ
-packed b k zero = 0
-packed b k (suc n) = cond (b k) 1 0 + 2 * packed b (suc k) n
 
 -- column x of row y is set, where the anchor is a
 abbrev pub column : List Point → Cell → ℕ → ℕ → Bool

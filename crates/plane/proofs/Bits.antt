@@ -1,16 +1,14 @@
--- The bits of a packed row, and of the row word that holds it.
+-- The bits of a packed number are those that it was packed from, whatever stands above them.
 use mathlib.Core.Path.{_≡_, refl, sym, _∙_, ap, subst}
 use mathlib.Core.Logic.{_↔_}
 use mathlib.Core.Bool.{Bool, true, false, cond}
 use Prim.Native.Nat.{ℕ, zero, suc, _+_, _*_, _/_, _%_, _^_, _<_}
 use native.Mathlib.Omega.{arith}
-use native.Mathlib.Nat.{pow-succ', div-div-eq-div-mul, add-suc, suc-add, le-of-suc-le-suc, not-suc-le-zero, add-zero, mul-assoc}
+use native.Mathlib.Nat.{pow-succ', div-div-eq-div-mul, add-suc, suc-add, le-of-suc-le-suc, not-suc-le-zero, add-zero, zero-add, mul-assoc}
 use lib.Dec.{T, eqb, eqb→eq}
-use Rattle.plane.specs.Lists.{In, upTo}
+use Rattle.plane.specs.Lists.{In, bits, upTo, packed}
 use Rattle.plane.proofs.Member.{In-keep, upTo-In, In-upTo}
 use Rattle.plane.proofs.Tests.{eq-eqb}
-use Rattle.words.specs.Word.{rowColumns, rowWord}
-use Rattle.shapes.specs.Listed.{packed}
 
 -- one bit more below
 half : (c : Bool) (r : ℕ) → (cond c 1 0 + 2 * r) / 2 ≡ r
@@ -24,7 +22,7 @@ low false r = omega arith
 halves : (x i : ℕ) → x / 2 ^ suc i ≡ x / 2 / 2 ^ i
 halves x i = ap (λ m. x / m) (pow-succ' 2 i) ∙ sym (div-div-eq-div-mul x 2 (2 ^ i))
 
-pub packed-digit : (b : ℕ → Bool) (i k n : ℕ) → i < n → packed b k n / 2 ^ i % 2 ≡ cond (b (k + i)) 1 0
+packed-digit : (b : ℕ → Bool) (i k n : ℕ) → i < n → packed b k n / 2 ^ i % 2 ≡ cond (b (k + i)) 1 0
 unfolding packed
 packed-digit b i k zero h = absurd (not-suc-le-zero h)
 packed-digit b zero k (suc n) h = low (b k) (packed b (suc k) n) ∙ ap (λ j. cond (b j) 1 0) (sym (add-zero k))
@@ -66,26 +64,20 @@ true-one : (c : Bool) → T c → _≡_ {A = ℕ} (cond c 1 0) 1
 true-one true t = refl
 true-one false t = absurd t
 
--- the columns of a row word are the bits that it was packed from
-pub row-columns : (b : ℕ → Bool) (y x : ℕ) → In (rowColumns (rowWord y (packed b 0 16))) x ↔ ((x < 16) × T (b x))
-row-columns b y x = (
-  λ h. let r = In-keep set (upTo 16) x .0 h in
-      let l = upTo-In 16 x (r .0) in
+-- q above the n bits that are packed
+pub bits-packed : (b : ℕ → Bool) (n q x : ℕ) → In (bits n (2 ^ n * q + packed b 0 n)) x ↔ ((x < n) × T (b x))
+bits-packed b n q x = (
+  λ h. let r = In-keep set (upTo n) x .0 h in
+      let l = upTo-In n x (r .0) in
       (l, one-true (b x) (sym (digit l) ∙ eqb→eq (w / 2 ^ x % 2) 1 (r .1))),
-  λ h. In-keep set (upTo 16) x .1 (In-upTo 16 x (h .0), eq-eqb (digit (h .0) ∙ true-one (b x) (h .1))),
+  λ h. In-keep set (upTo n) x .1 (In-upTo n x (h .0), eq-eqb (digit (h .0) ∙ true-one (b x) (h .1))),
 )
   where
-    c : ℕ
-    c = packed b 0 16
-
     w : ℕ
-    w = rowWord y c
+    w = 2 ^ n * q + packed b 0 n
 
     set : ℕ → Bool
     set k = eqb (w / 2 ^ k % 2) 1
 
-    top : (y c : ℕ) → rowWord y c ≡ 65536 * (8192 + y) + c
-    top y c = omega arith
-
-    digit : x < 16 → w / 2 ^ x % 2 ≡ cond (b x) 1 0
-    digit l = ap (λ m. m / 2 ^ x % 2) (top y c) ∙ above 16 x (8192 + y) c l ∙ packed-digit b x 0 16 l ∙ ap (λ j. cond (b j) 1 0) (omega arith)
+    digit : x < n → w / 2 ^ x % 2 ≡ cond (b x) 1 0
+    digit l = above n x q (packed b 0 n) l ∙ packed-digit b x 0 n l ∙ ap (λ j. cond (b j) 1 0) (zero-add x)
