@@ -1,4 +1,5 @@
--- The claim of the one function that plans, cleans and hands back, from what it does call by call.
+-- The claim of the one function that plans, cleans and hands back, from what it does call by call: planning found no plan, and then nothing more is done, or
+-- its words are cleaned with and the part is handed back, as demand 3 says.
 use mathlib.Core.Path.{_≡_, sym, _∙_, ap, subst}
 use mathlib.Core.Logic.{_⊎_, _≢_, inl, inr}
 use mathlib.Core.List.{List}
@@ -19,6 +20,7 @@ pub claimed : (op : Operation) (ws out : List ℕ) (r : Answer) (out′ : List �
     → Steps op ws out r out′ W H f i j s i′ j′ p → Claim op ws out out′ W H f i j s i′ j′ p
 claimed op ws out r out′ W H f i j s i′ j′ p S e v = go (S .plans .done e) (demand3 ws out r out′ (S .plans) e .plan)
   where
+    -- a refusal is not the answer 0
     ten : stated r ≡ refusal 10 → stated r .0 ≢ 0
     ten q z = let n : _≡_ {A = ℕ} 10 0 = sym (ap (λ a. a .0) q) ∙ z in omega arith
 
@@ -42,7 +44,8 @@ claimed op ws out r out′ W H f i j s i′ j′ p S e v = go (S .plans .done e)
           direct = subst (Direct op W H f (Shape ws)) (sym h) (c .direct);
         }
 
-    go : Unplannable ws out r out′ ⊎ PlanWritten ws out r out′ → (stated r ≡ refusal 10) ⊎ Served ws out r out′ → NoPlan ws out out′ i j s i′ j′ p ⊎ Handed op ws out out′ W H f s p
+    go : Unplannable ws out r out′ ⊎ PlanWritten ws out r out′ → (stated r ≡ refusal 10) ⊎ Served ws out r out′
+        → NoPlan ws out out′ i j s i′ j′ p ⊎ Handed op ws out out′ W H f s p
     go (inl u) d = inl (none u)
     go (inr w) (inl q) = absurd (not-ten r (length (w .stages) + 2) (w .answer) q)
     go (inr w) (inr t) = inr (handed t)

@@ -14,7 +14,7 @@ use Rattle.words.specs.Ground.{firstOf, stated, result, refusal}
 use Rattle.words.proofs.Refusals.{Clear, clear, unclear, clear-append, result-no-refusal}
 use Rattle.masks.specs.Chain.{PlanOf}
 use Rattle.masks.specs.Mask.{stage}
-use Rattle.shapes.specs.Plan.{planPoints, planMasks, planWords, planTests}
+use Rattle.shapes.specs.Plan.{planPoints, planWords, planTests}
 use Rattle.shapes.proofs.Accepted.{Shaped}
 use Rattle.shapes.proofs.Written.{plan-clear, masks-are, offset-is, plan-stands}
 use Rattle.planning.specs.Planning.{Shape, PlanWritten, Unplannable}
@@ -30,7 +30,8 @@ use Rattle.claim.specs.Demand.{Demand2, Demand3, Agrees, Served, Decided
 pub demand2 : Demand2
 demand2 op plan W H f i j s i′ j′ c e =
     let ran = c .done e in
-    subst (Direct op W H f (In (planPoints plan))) (sym (ap (λ a. part (a .1) W H i′ j′) (ran .answer) ∙ ran .handed)) (accepted-direct op plan W H f i j e)
+    let turns = ap (λ a. part (a .1) W H i′ j′) (ran .answer) ∙ ran .handed in
+    subst (Direct op W H f (In (planPoints plan))) (sym turns) (accepted-direct op plan W H f i j e)
 
 -- ---- demand 3
 
@@ -42,20 +43,26 @@ work-clear W H f i j e = clear (workTests W H f i j) tt e
 module _ (ws : List ℕ) (S : Shaped ws) (d : Point) (ms : List ℕ) (P : PlanOf stage (Shape ws) d ms) where
   -- none of the four operations refuses the plan's words on an accepted frame
   pub runs : (W H : ℕ) (f i j : List ℕ) → firstOf (workTests W H f i j) ≡ 0 → firstOf (operationTests (planWords d ms) W H f i j) ≡ 0
-  runs W H f i j e = unclear (operationTests (planWords d ms) W H f i j) (clear-append (planTests (planWords d ms)) (workTests W H f i j) (plan-clear ws S d ms P) (work-clear W H f i j e))
+  runs W H f i j e =
+      let c = clear-append (planTests (planWords d ms)) (workTests W H f i j) (plan-clear ws S d ms P) (work-clear W H f i j e) in
+      unclear (operationTests (planWords d ms) W H f i j) c
 
   -- and each agrees
-  pub agrees : (op : Operation) (W H : ℕ) (f i j : List ℕ) (s : Answer) (i′ j′ : List ℕ) → firstOf (workTests W H f i j) ≡ 0 → Cleaned op (planWords d ms) W H f i j s i′ j′ → Agrees op ws d ms W H f s i′ j′
+  pub agrees : (op : Operation) (W H : ℕ) (f i j : List ℕ) (s : Answer) (i′ j′ : List ℕ) → firstOf (workTests W H f i j) ≡ 0
+      → Cleaned op (planWords d ms) W H f i j s i′ j′ → Agrees op ws d ms W H f s i′ j′
   agrees op W H f i j s i′ j′ e c =
       let run = runs W H f i j e in
       let ran = c .done run in
-      let n : stagesRun op (length (planMasks (planWords d ms))) ≡ stagesRun op (length ms) = ap (λ l. stagesRun op (length l)) (masks-are ws S d ms P) in
+      let plan = planWords d ms in
+      let masks = masks-are ws S d ms P in
+      let given = demand2 op plan W H f i j s i′ j′ c run in
       record {
-        answer = ran .answer ∙ ap result n;
-        turns = ap (λ a. part (a .1) W H i′ j′) (ran .answer) ∙ ran .handed ∙ ap₂ (λ p l. inTurn op W H f p l) (offset-is ws S d ms P) (masks-are ws S d ms P);
-        direct = same-direct op W H f (In (planPoints (planWords d ms))) (Shape ws) (part (stated s .1) W H i′ j′) (plan-stands ws S d ms P) (demand2 op (planWords d ms) W H f i j s i′ j′ c run);
+        answer = ran .answer ∙ ap (λ l. result (stagesRun op (length l))) masks;
+        turns = ap (λ a. part (a .1) W H i′ j′) (ran .answer) ∙ ran .handed ∙ ap₂ (λ p l. inTurn op W H f p l) (offset-is ws S d ms P) masks;
+        direct = same-direct op W H f (In (planPoints plan)) (Shape ws) (part (stated s .1) W H i′ j′) (plan-stands ws S d ms P) given;
       }
 
+-- the plan that was written, and what each operation makes of the words that were written
 served : (ws out : List ℕ) (r : Answer) (out′ : List ℕ) → Shaped ws → PlanWritten ws out r out′ → Served ws out r out′
 served ws out r out′ S w =
     let d = w .offset in
@@ -70,7 +77,8 @@ served ws out r out′ S w =
       picked = w .picked;
       sum = P .sum;
       fewest = w .fewest;
-      frames = λ op W H f i j s i′ j′ e. subst (λ p. Cleaned op p W H f i j s i′ j′ → Agrees op ws d ms W H f s i′ j′) (sym head) (agrees ws S d ms P op W H f i j s i′ j′ e);
+      frames = λ op W H f i j s i′ j′ e.
+          subst (λ p. Cleaned op p W H f i j s i′ j′ → Agrees op ws d ms W H f s i′ j′) (sym head) (agrees ws S d ms P op W H f i j s i′ j′ e);
     }
 
 -- a result is not refusal 10
@@ -82,7 +90,9 @@ demand3 ws out r out′ p e = go (p .done e)
   where
     go : Unplannable ws out r out′ ⊎ PlanWritten ws out r out′ → Decided ws out r out′
     go (inl u) = record { none = (λ _. u .none, λ _. u .answer); plan = inl (u .answer) }
-    go (inr w) = record {
-      none = (λ q. absurd (not-ten r (length (w .stages) + 2) (w .answer) q), λ f. absurd (f (chain-of (Shape ws) (w .offset) (w .stages) (w .picked .plan))));
-      plan = inr (served ws out r out′ (accepted ws out e) w);
-    }
+    go (inr w) =
+        let chain = chain-of (Shape ws) (w .offset) (w .stages) (w .picked .plan) in
+        record {
+          none = (λ q. absurd (not-ten r (length (w .stages) + 2) (w .answer) q), λ f. absurd (f chain));
+          plan = inr (served ws out r out′ (accepted ws out e) w);
+        }

@@ -1,4 +1,4 @@
--- The statement `Measured`: the plans and the absence of chains are those of masks, found by the computed search; the frames are computed.
+-- The statement `Measured`, case by case: the plans and the absence of chains are those of masks, found by the computed search; the frames are computed.
 use mathlib.Core.Path.{_≡_, refl, _∙_, ap, subst}
 use mathlib.Core.Bool.{not}
 use mathlib.Core.List.{List, [], _∷_, _++_}
@@ -10,7 +10,7 @@ use lib.ListN.{length, length-map, drop}
 use Rattle.cleaning.specs.declared.Operation.{Operation}
 use Rattle.cleaning.specs.declared.Operation.the-variants.{Erosion, Opening, Closing}
 use Rattle.plane.specs.Extent.{span}
-use Rattle.plane.specs.Point.{_+ᵖ_, negᵖ, origin, Point}
+use Rattle.plane.specs.Point.{_+ᵖ_, negᵖ, origin, Point, Cell}
 use Rattle.plane.proofs.Tests.{not-ltb, not-not, not-or, eq-eqb}
 use Rattle.words.specs.Ground.{firstOf, result}
 use Rattle.words.specs.Word.{stageWord}
@@ -53,6 +53,7 @@ module _ (ws : List ℕ) (d : Point) (ms : List ℕ) (e : firstOf (shapeTests ws
   count : length ms + 2 ≡ length (planWords d ms)
   count = let l = length-map ms stageWord in omega arith
 
+  -- a shape list that passes its grounds and has a picked plan is planned as that
   plans-as : PlannedAs ws (planWords d ms)
   plans-as = record {
     accepted = accepts ws e;
@@ -61,6 +62,7 @@ module _ (ws : List ℕ) (d : Point) (ms : List ℕ) (e : firstOf (shapeTests ws
     words = λ out h r out′ p. planned ws out (accepts ws e out h) r out′ p d ms P .1 ∙ ap (λ n. planWords d ms ++ drop n out) count;
   }
 
+-- a shape list that passes its grounds and has no chain is refused by 10
 refused-ten : (ws : List ℕ) → firstOf (shapeTests ws) ≡ 0 → ¬ Chain subset (Shape ws) → RefusedTen ws
 refused-ten ws e none = record {
   accepted = accepts ws e;
@@ -71,26 +73,21 @@ refused-ten ws e none = record {
 -- ---- frames of one row
 
 -- a row of free and occupied cells with two images that are long enough is accepted
-row-accepted : (f i j : List ℕ) → T (not (badSize (length f) 1)) → T (not (badCell f)) → gridSize (length f) 1 ≤ length i → gridSize (length f) 1 ≤ length j → firstOf (workTests (length f) 1 f i j) ≡ 0
+row-accepted : (f i j : List ℕ) → T (not (badSize (length f) 1)) → T (not (badCell f)) → gridSize (length f) 1 ≤ length i → gridSize (length f) 1 ≤ length j
+    → firstOf (workTests (length f) 1 f i j) ≡ 0
 unfolding workTests
 row-accepted f i j b c h k =
-    unclear (workTests (length f) 1 f i j) (
-      b,
-      (
-        not-not (eqb (length f) (length f * 1)) (eq-eqb (one (length f))),
-        (
-          c,
-          (
-            not-or (shortImage (length f) 1 i) (shortImage (length f) 1 j) .1 (not-ltb (length i) (gridSize (length f) 1) h, not-ltb (length j) (gridSize (length f) 1) k),
-            tt,
-          ),
-        ),
-      ),
-    )
+    let size = not-not (eqb W (W * 1)) (eq-eqb (times-one W)) in
+    let images = not-or (shortImage W 1 i) (shortImage W 1 j) .1 (not-ltb (length i) (gridSize W 1) h, not-ltb (length j) (gridSize W 1) k) in
+    unclear (workTests W 1 f i j) (b, (size, (c, (images, tt))))
   where
-    one : (n : ℕ) → n ≡ n * 1
-    one n = omega arith
+    W : ℕ
+    W = length f
 
+    times-one : (n : ℕ) → n ≡ n * 1
+    times-one n = omega arith
+
+-- an accepted shape with a picked plan, and a row: what the stages give in turn is what is handed back
 cleans-as : (op : Operation) (ws : List ℕ) (d : Point) (ms f r : List ℕ) → firstOf (shapeTests ws) ≡ 0 → Picked stage (Shape ws) d ms
     → T (not (badSize (length f) 1)) → T (not (badCell f)) → inTurn op (length f) 1 f d ms ≡ r → CleanedAs op ws (planWords d ms) f r
 unfolding shapeTests
@@ -109,15 +106,35 @@ cleans-as op ws d ms f r e P b c t =
 
 threePicked : Picked stage (Shape threeWords) origin (7 ∷ [])
 unfolding shapePoints _+ᵖ_ negᵖ search same stage sumCells cellSums
-threePicked = picked (Shape threeWords) ((0, 0) ∷ (1, 0) ∷ (2, 0) ∷ []) origin (7 ∷ []) (placed (shapePoints threeWords) ((0, 0) ∷ (1, 0) ∷ (2, 0) ∷ []) origin refl tt tt) tt tt tt tt refl
+threePicked = picked (Shape threeWords) A origin (7 ∷ []) (placed (shapePoints threeWords) A origin refl tt tt) tt tt tt tt refl
+  where
+    A : List Cell
+    A = (0, 0) ∷ (1, 0) ∷ (2, 0) ∷ []
 
 twoPicked : Picked stage (Shape twoWords) origin (3 ∷ [])
 unfolding shapePoints _+ᵖ_ negᵖ search same stage sumCells cellSums
-twoPicked = picked (Shape twoWords) ((0, 0) ∷ (1, 0) ∷ []) origin (3 ∷ []) (placed (shapePoints twoWords) ((0, 0) ∷ (1, 0) ∷ []) origin refl tt tt) tt tt tt tt refl
+twoPicked = picked (Shape twoWords) A origin (3 ∷ []) (placed (shapePoints twoWords) A origin refl tt tt) tt tt tt tt refl
+  where
+    A : List Cell
+    A = (0, 0) ∷ (1, 0) ∷ []
 
-rightPicked : Picked stage (Shape rightWords) (pos 1, pos 0) []
+abbrev right : Point
+right = (pos 1, pos 0)
+
+rightPicked : Picked stage (Shape rightWords) right []
 unfolding shapePoints _+ᵖ_ negᵖ
-rightPicked = one (pos 1, pos 0) (shapePoints rightWords) refl
+rightPicked = one right (shapePoints rightWords) refl
+
+-- ---- one cell, with the anchors (0, 0) and (15, 15)
+
+abbrev cellWords : List ℕ
+cellWords = 0x10000000 ∷ 0x20000001 ∷ []
+
+abbrev cornerWords : List ℕ
+cornerWords = 0x100000ff ∷ 0x20000001 ∷ []
+
+abbrev corner : Point
+corner = (negsuc 14, negsuc 14)
 
 -- ---- the statement
 
@@ -125,11 +142,12 @@ pub measured : Measured
 unfolding shapePoints shapeTests _+ᵖ_ negᵖ span wordLines inTurn lastGrid once cells valueAt maskCells
 measured = record {
   four = plans-as fourWords origin (3 ∷ 5 ∷ []) refl four;
-  four-printed = λ output P. printed-plan fourInput output fourWords (record { words = tt; lines = refl }) P (λ out h. accepts fourWords refl out (omega arith)) origin (3 ∷ 5 ∷ []) four;
+  four-printed = λ output P.
+      printed-plan fourInput output fourWords (record { words = tt; lines = refl }) P (λ out h. accepts fourWords refl out (omega arith)) origin (3 ∷ 5 ∷ []) four;
   four-before = four-order;
   four-other = four-other;
-  cell = plans-as (0x10000000 ∷ 0x20000001 ∷ []) origin [] refl (one origin (shapePoints (0x10000000 ∷ 0x20000001 ∷ [])) refl);
-  corner = plans-as (0x100000ff ∷ 0x20000001 ∷ []) (negsuc 14, negsuc 14) [] refl (one (negsuc 14, negsuc 14) (shapePoints (0x100000ff ∷ 0x20000001 ∷ [])) refl);
+  cell = plans-as cellWords origin [] refl (one origin (shapePoints cellWords) refl);
+  corner = plans-as cornerWords corner [] refl (one corner (shapePoints cornerWords) refl);
   apart = refused-ten (0x10000000 ∷ 0x20000009 ∷ []) refl apart;
   gap = refused-ten (0x10000000 ∷ 0x2000000b ∷ []) refl gap;
   eight = plans-as eightWords origin (17 ∷ 33 ∷ 129 ∷ []) refl eight;
@@ -138,6 +156,6 @@ measured = record {
   closed = cleans-as Closing threeWords origin (7 ∷ []) (1 ∷ 0 ∷ 1 ∷ []) (1 ∷ 1 ∷ 1 ∷ []) refl threePicked tt tt refl;
   eroded = cleans-as Erosion twoWords origin (3 ∷ []) (1 ∷ 1 ∷ []) (1 ∷ 0 ∷ []) refl twoPicked tt tt refl;
   eroded-three = cleans-as Erosion twoWords origin (3 ∷ []) (1 ∷ 1 ∷ 0 ∷ []) (1 ∷ 0 ∷ 0 ∷ []) refl twoPicked tt tt refl;
-  eroded-point = cleans-as Erosion rightWords (pos 1, pos 0) [] (1 ∷ 0 ∷ 0 ∷ []) (0 ∷ 0 ∷ 0 ∷ []) refl rightPicked tt tt refl;
-  opened-point = cleans-as Opening rightWords (pos 1, pos 0) [] (1 ∷ 0 ∷ 0 ∷ []) (1 ∷ 0 ∷ 0 ∷ []) refl rightPicked tt tt refl;
+  eroded-point = cleans-as Erosion rightWords right [] (1 ∷ 0 ∷ 0 ∷ []) (0 ∷ 0 ∷ 0 ∷ []) refl rightPicked tt tt refl;
+  opened-point = cleans-as Opening rightWords right [] (1 ∷ 0 ∷ 0 ∷ []) (1 ∷ 0 ∷ 0 ∷ []) refl rightPicked tt tt refl;
 }

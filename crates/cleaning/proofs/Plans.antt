@@ -54,19 +54,31 @@ small-plan ws t o c h = (
     v : T (not (ltb 15 (width A))) × T (not (ltb 15 (height A)))
     v = not-or (ltb 15 (width A)) (ltb 15 (height A)) .0 (not-or (ltb 15 (width A) || ltb 15 (height A)) (any (λ p. tooFar (p .0) || tooFar (p .1)) A) .0 o .0)
 
-    has : (a : Cell) → In (sumCells ms) a → In A (d +ᵖ point a)
+    -- the point of the plan that a cell of the sum is moved to
+    to : Cell → Point
+    to a = d +ᵖ point a
+
+    has : (a : Cell) → In (sumCells ms) a → In A (to a)
     has a g =
         let e = subst (λ P. In P (point a)) (sym (sum-cells ms)) (In-map point (sumCells ms) (point a) .1 (a, g, refl)) in
-        In-map (λ q. d +ᵖ q) (sumOf ms) (d +ᵖ point a) .1 (point a, e, refl)
+        In-map (λ q. d +ᵖ q) (sumOf ms) (to a) .1 (point a, e, refl)
 
+    -- along one axis: b is at 0, so c is as far from it as its number says
     near : (axis : Point → ℤ) → Adds axis → (number : Cell → ℕ) → ((a : Cell) → axis (point a) ≡ pos (number a))
         → (b : Cell) → In (sumCells ms) b → number b ≡ 0 → span (map axis A) ≤ 15 → number c ≤ 15
     near axis adds number is b k z s =
-        let at : (a : Cell) → axis (d +ᵖ point a) ≡ axis d +ℤ pos (number a) = λ a. adds d (point a) ∙ ap (λ n. axis d +ℤ n) (is a) in
-        let on : (a : Cell) → In (sumCells ms) a → In (map axis A) (axis (d +ᵖ point a)) = λ a g. In-map axis A (axis (d +ᵖ point a)) .1 (d +ᵖ point a, has a g, refl) in
-        let apart : axis (d +ᵖ point c) -ℤ axis (d +ᵖ point b) ≡ pos (number c) =
-        ap (λ n. axis (d +ᵖ point c) -ℤ n) (at b ∙ ap (λ n. axis d +ℤ pos n) z ∙ +ℤ-idr (axis d)) ∙ ap (λ n. n -ℤ axis d) (at c) ∙ +ℤ-less (axis d) (pos (number c)) in
-        nltb→le 15 (number c) (subst (λ n. T (not (ltZ (pos 15) n))) apart (span-far (map axis A) (axis (d +ᵖ point c)) (axis (d +ᵖ point b)) 15 (on c h) (on b k) s))
+        nltb→le 15 (number c) (subst (λ n. T (not (ltZ (pos 15) n))) apart (span-far (map axis A) (axis (to c)) (axis (to b)) 15 (on c h) (on b k) s))
+      where
+        at : (a : Cell) → axis (to a) ≡ axis d +ℤ pos (number a)
+        at a = adds d (point a) ∙ ap (λ n. axis d +ℤ n) (is a)
+
+        on : (a : Cell) → In (sumCells ms) a → In (map axis A) (axis (to a))
+        on a g = In-map axis A (axis (to a)) .1 (to a, has a g, refl)
+
+        apart : axis (to c) -ℤ axis (to b) ≡ pos (number c)
+        apart =
+            ap (λ n. axis (to c) -ℤ n) (at b ∙ ap (λ n. axis d +ℤ pos n) z ∙ +ℤ-idr (axis d)) ∙ ap (λ n. n -ℤ axis d) (at c)
+            ∙ +ℤ-less (axis d) (pos (number c))
 
 -- ground 13
 pub binary : (f : List ℕ) → T (not (badCell f)) → (i : ℕ) → getD f i 0 ≤ 1
@@ -80,4 +92,5 @@ accepted-direct op plan W H f i j e =
     let p = clear-first (planTests plan) (workTests W H f i j) c .1 .1 .1 .1 .1 in
     let w = clear-last (planTests plan) (workTests W H f i j) c in
     let P = plan-itself plan (p .0) in
-    turn-direct op W H f (planOffset plan) (planMasks plan) (In (planPoints plan)) (P .stages) (small-plan plan (P .stages) (p .1 .0)) (binary f (w .1 .1 .0)) (P .sum)
+    let small = small-plan plan (P .stages) (p .1 .0) in
+    turn-direct op W H f (planOffset plan) (planMasks plan) (In (planPoints plan)) (P .stages) small (binary f (w .1 .1 .0)) (P .sum)

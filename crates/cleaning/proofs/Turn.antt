@@ -31,6 +31,7 @@ use Rattle.cleaning.proofs.Within.{Small, Kept, kept, dilation-within, 
 
 -- ---- a picture taken through a sum
 
+-- through a sum is through one set and then the other
 over-sums : (erode : Bool) (P Q : List Point) (f : Point → ℕ) → over erode (sums P Q) f ≡ over erode P (over erode Q f)
 over-sums true P Q f = fun-ext (eroded-sums lesser full lesser-laws P Q f)
 over-sums false P Q f = fun-ext (dilated-sums greater free greater-laws P Q f)
@@ -39,11 +40,13 @@ over-same : (erode : Bool) (P Q : List Point) (f : Point → ℕ) → In P ≐ I
 over-same true P Q f s = fun-ext (λ p. eroded-same lesser full lesser-laws P Q f p s)
 over-same false P Q f s = fun-ext (λ p. dilated-same greater free greater-laws P Q f p s)
 
+-- through no stage, a picture of 0 and 1 stays as it is
 over-none : (erode : Bool) (f : Point → ℕ) → Binary f → over erode (sumOf []) f ≡ f
 unfolding sumOf
 over-none true f b = fun-ext (λ p. let q : f (p +ᵖ origin) ≡ f p = ap f (+ᵖ-origin p) in let z = b p in omega arith)
 over-none false f b = fun-ext (λ p. let q : f (p -ᵖ origin) ≡ f p = ap f (sym (+ᵖ-origin (p -ᵖ origin)) ∙ subᵖ-cancel p origin) in omega arith)
 
+-- the first stage and then the others is all of them
 over-cons : (erode : Bool) (m : ℕ) (ms : List ℕ) (f : Point → ℕ) → over erode (sumOf ms) (over erode (maskPoints m) f) ≡ over erode (sumOf (m ∷ ms)) f
 unfolding sumOf
 over-cons erode m ms f =
@@ -56,14 +59,28 @@ over-cons erode m ms f =
 pub turn : (erode : Bool) (W H : ℕ) (ms : List ℕ) (f : Point → ℕ) (g : List ℕ) → Binary f → Kept erode (W + 15) (H + 15) ms f → grid free W H g ≡ f
     → grid free W H (through (once erode free W H) ms g) ≡ over erode (sumOf ms) f
 turn erode W H [] f g b k e = e ∙ sym (over-none erode f b)
-turn erode W H (m ∷ ms) f g b k e =
-    let F = over erode (maskPoints m) f in
-    let c = over-binary erode (maskPoints m) f b in
-    let first : Within 0 (W + 15) (H + 15) F = subst (Within 0 (W + 15) (H + 15)) (sym (over-cons erode m [] f) ∙ over-none erode F c) (k 1) in
-    let rest : Kept erode (W + 15) (H + 15) ms F = λ j. subst (Within 0 (W + 15) (H + 15)) (sym (over-cons erode m (take j ms) f)) (k (suc j)) in
-    let here : grid free W H (once erode free W H m g) ≡ F =
-    ap (grid free W H) (once-is erode free W H m g) ∙ ap (λ z. grid free W H (laid W H (over erode (maskPoints m) z))) e ∙ fun-ext (view-within 0 (W + 15) (H + 15) F first) in
-    turn erode W H ms F (once erode free W H m g) c rest here ∙ over-cons erode m ms f
+turn erode W H (m ∷ ms) f g b k e = turn erode W H ms F (once erode free W H m g) c rest here ∙ over-cons erode m ms f
+  where
+    -- the picture after the first stage
+    F : Point → ℕ
+    F = over erode (maskPoints m) f
+
+    c : Binary F
+    c = over-binary erode (maskPoints m) f b
+
+    Inside : (Point → ℕ) → Type 0
+    Inside = Within 0 (W + 15) (H + 15)
+
+    first : Inside F
+    first = subst Inside (sym (over-cons erode m [] f) ∙ over-none erode F c) (k 1)
+
+    rest : Kept erode (W + 15) (H + 15) ms F
+    rest j = subst Inside (sym (over-cons erode m (take j ms) f)) (k (suc j))
+
+    here : grid free W H (once erode free W H m g) ≡ F
+    here =
+        ap (grid free W H) (once-is erode free W H m g) ∙ ap (λ z. grid free W H (laid W H (over erode (maskPoints m) z))) e
+        ∙ fun-ext (view-within 0 (W + 15) (H + 15) F first)
 
 -- ---- the four operations
 
@@ -115,6 +132,7 @@ last-whole op W H f ms t s v = go op
 
 -- ---- directly
 
+-- a cell that is 1 exactly where P holds, and never above 1, says whether P
 says : (v : ℕ) (P : Type 0) → v ≤ 1 → (v ≡ 1 ↔ P) → Says v P
 says v P h e = go (ℕ-discrete v 1)
   where
@@ -123,11 +141,13 @@ says v P h e = go (ℕ-discrete v 1)
     go (no q) = inr (omega arith, λ x. q (e .1 x))
 
 -- the cells of a picture are what A gives directly, if its occupied points are those that the operation makes
-direct : (op : Operation) (W H : ℕ) (f : List ℕ) (A : PointSet) (F : Point → ℕ) → Binary F → occupied F ≐ made op (occupied (asRead op W H f)) A → Direct op W H f A (cells W H F)
+direct : (op : Operation) (W H : ℕ) (f : List ℕ) (A : PointSet) (F : Point → ℕ) → Binary F → occupied F ≐ made op (occupied (asRead op W H f)) A
+    → Direct op W H f A (cells W H F)
 direct op W H f A F b e = record {
   size = length-cells W H F ∙ mul-comm H W;
-  cell = λ x y h k. let S = made op (occupied (asRead op W H f)) A (pos x, pos y) in
-      subst (λ n. Says n S) (sym (getD-cells W H F x y 0 h k)) (says (F (pos x, pos y)) S (b (pos x, pos y)) (e (pos x, pos y)));
+  cell = λ x y h k. let p : Point = (pos x, pos y) in
+      let S = made op (occupied (asRead op W H f)) A p in
+      subst (λ n. Says n S) (sym (getD-cells W H F x y 0 h k)) (says (F p) S (b p) (e p));
 }
 
 -- the set at the place that is read is the set of the moved sum
@@ -143,18 +163,20 @@ pub turn-direct : (op : Operation) (W H : ℕ) (f : List ℕ) (d : Point) (ms : 
     → Direct op W H f A (inTurn op W H f d ms)
 unfolding inTurn put
 turn-direct op W H f d ms A t s v e =
-    let X = occupied (frame free W H f) in
+    let g = frame free W H f in
     let b = frame-binary W H f v in
-    let F = whole op (sumOf ms) (frame free W H f) in
+    let S = sumOf ms in
+    let is = ≐-trans (λ p. whole-set op S g b (readAt op d p)) (made-moved op (occupied g) (In S) A d e) in
     subst (λ z. Direct op W H f A (cells W H (λ p. z (readAt op d p)))) (sym (last-whole op W H f ms t s v))
-    (direct op W H f A (λ p. F (readAt op d p)) (λ p. whole-binary op (sumOf ms) (frame free W H f) b (readAt op d p))
-    (≐-trans (λ p. whole-set op (sumOf ms) (frame free W H f) b (readAt op d p)) (made-moved op X (In (sumOf ms)) A d e)))
+    (direct op W H f A (λ p. whole op S g (readAt op d p)) (λ p. whole-binary op S g b (readAt op d p)) is)
 
 -- what a list of points gives directly, computed
-pub direct-cells : (op : Operation) (W H : ℕ) (f : List ℕ) (P : List Point) → ((i : ℕ) → getD f i 0 ≤ 1) → Direct op W H f (In P) (cells W H (whole op P (frame free W H f)))
+pub direct-cells : (op : Operation) (W H : ℕ) (f : List ℕ) (P : List Point) → ((i : ℕ) → getD f i 0 ≤ 1)
+    → Direct op W H f (In P) (cells W H (whole op P (frame free W H f)))
 direct-cells op W H f P v =
+    let g = frame free W H f in
     let b = frame-binary W H f v in
-    direct op W H f (In P) (whole op P (frame free W H f)) (whole-binary op P (frame free W H f) b) (whole-set op P (frame free W H f) b)
+    direct op W H f (In P) (whole op P g) (whole-binary op P g b) (whole-set op P g b)
 
 -- equal sets of points give the same directly
 made-same : (op : Operation) (X A B : PointSet) → A ≐ B → made op X A ≐ made op X B
@@ -164,8 +186,11 @@ made-same Opening X A B e = ⊕-cong (⊖-cong (≐-refl X) e) e
 made-same Closing X A B e = ⊖-cong (⊕-cong (≐-refl X) e) e
 
 pub same-direct : (op : Operation) (W H : ℕ) (f : List ℕ) (A B : PointSet) (r : List ℕ) → A ≐ B → Direct op W H f A r → Direct op W H f B r
-same-direct op W H f A B r e D = record { size = D .size; cell = λ x y h k. go (getD r (y * W + x) 0) (made-same op (occupied (asRead op W H f)) A B e (pos x, pos y)) (D .cell x y h k) }
+same-direct op W H f A B r e D = record { size = D .size; cell = λ x y h k. go (getD r (y * W + x) 0) (same (pos x, pos y)) (D .cell x y h k) }
   where
+    same : made op (occupied (asRead op W H f)) A ≐ made op (occupied (asRead op W H f)) B
+    same = made-same op (occupied (asRead op W H f)) A B e
+
     go : {P Q : Type 0} (v : ℕ) → P ↔ Q → Says v P → Says v Q
     go v q (inl t) = inl (t .0, q .0 (t .1))
     go v q (inr t) = inr (t .0, λ z. t .1 (q .1 z))

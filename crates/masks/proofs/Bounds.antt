@@ -84,12 +84,6 @@ total-bounds (m ∷ ms) t =
     let u = T-and (stage m) (all stage ms) .0 t in
     let a = stage-extents m (u .0) in
     let b = total-bounds ms (u .1) in
-    let a0 = a .0 in
-    let a1 = a .1 in
-    let a2 = a .2 in
-    let b0 = b .0 in
-    let b1 = b .1 in
-    let b2 = b .2 in
     (omega arith, omega arith, omega arith)
 
 -- ---- how many stages a plan has
@@ -110,11 +104,6 @@ module _ (S : PointSet) (w h : ℕ) (W : Extent x-of S w) (H : Extent y-of S h) 
   plan-bounds d ms P =
       let e = plan-extents d ms P in
       let b = total-bounds ms (P .stages) in
-      let e0 = e .0 in
-      let e1 = e .1 in
-      let b0 = b .0 in
-      let b1 = b .1 in
-      let b2 = b .2 in
       (omega arith, omega arith)
 
   -- no chain of any subsets of the square is shorter than that
@@ -128,31 +117,44 @@ module _ (S : PointSet) (w h : ℕ) (W : Extent x-of S w) (H : Extent y-of S h) 
 -- a sum of stages starts at 0 in each coordinate, so the plan of a set starts at its offset
 pub forced : (A : List Point) (d : Point) (ms : List ℕ) → PlanOf stage (In A) d ms → d ≡ corner A
 unfolding _+ᵖ_ negᵖ
-forced A d ms P = λ i. (one x-of (λ c. c .0) (L .x) (L .x-in) (L .x-zero) (λ c. refl) (λ p. refl) i, one y-of (λ c. c .1) (L .y) (L .y-in) (L .y-zero) (λ c. refl) (λ p. refl) i)
+forced A d ms P =
+    let ex = one x-of (λ c. c .0) (L .x) (L .x-in) (L .x-zero) (λ c. refl) (λ p. refl) in
+    let ey = one y-of (λ c. c .1) (L .y) (L .y-in) (L .y-zero) (λ c. refl) (λ p. refl) in
+    λ i. (ex i, ey i)
   where
     L : Low (sumCells ms)
     L = sum-low ms (P .stages)
 
+    -- a point of A, less d, is a cell of the sum
     cell : (p : Point) → In A p → (c : Cell) × In (sumCells ms) c × (p -ᵖ d ≡ point c)
     cell p h = In-map point (sumCells ms) (p -ᵖ d) .0 (subst (λ l. In l (p -ᵖ d)) (sum-cells ms) (P .sum p .0 h))
 
-    one : (axis : Point → ℤ) (number : Cell → ℕ) (c : Cell) → In (sumCells ms) c → number c ≡ 0 → ((c : Cell) → axis (point c) ≡ pos (number c)) → ((p : Point) → axis (p -ᵖ d) ≡ axis p -ℤ axis d) → axis d ≡ least (map axis A)
+    -- one coordinate: c is at 0 along it, so the point of c is at d, and no other is below
+    one : (axis : Point → ℤ) (number : Cell → ℕ) (c : Cell) → In (sumCells ms) c → number c ≡ 0 → ((c : Cell) → axis (point c) ≡ pos (number c))
+        → ((p : Point) → axis (p -ᵖ d) ≡ axis p -ℤ axis d) → axis d ≡ least (map axis A)
     one axis number c k z at less = sym (least-at (map axis A) (axis d) here below)
       where
-        start : point c +ᵖ d -ᵖ d ≡ point c
+        q : Point
+        q = point c +ᵖ d
+
+        start : q -ᵖ d ≡ point c
         start = +ᵖ-cancel (point c) d
 
-        first : In A (point c +ᵖ d)
-        first = P .sum (point c +ᵖ d) .1 (subst (λ l. In l (point c +ᵖ d -ᵖ d)) (sym (sum-cells ms)) (In-map point (sumCells ms) (point c +ᵖ d -ᵖ d) .1 (c, k, start)))
+        first : In A q
+        first = P .sum q .1 (subst (λ l. In l (q -ᵖ d)) (sym (sum-cells ms)) (In-map point (sumCells ms) (q -ᵖ d) .1 (c, k, start)))
 
         back : (p : Point) → axis p ≡ axis (p -ᵖ d) +ℤ axis d
         back p = sym (ap (λ x. x +ℤ axis d) (less p) ∙ -ℤ-+ℤ-cancel (axis p) (axis d))
 
+        -- the coordinate of a point that is a cell moved by d
+        onto : (p : Point) (c : Cell) → p -ᵖ d ≡ point c → axis p ≡ pos (number c) +ℤ axis d
+        onto p c e = back p ∙ ap (λ x. x +ℤ axis d) (ap axis e ∙ at c)
+
         here : In (map axis A) (axis d)
-        here = In-map axis A (axis d) .1 (point c +ᵖ d, first, sym (back (point c +ᵖ d) ∙ ap (λ p. axis p +ℤ axis d) start ∙ ap (λ x. x +ℤ axis d) (at c ∙ ap pos z) ∙ +ℤ-idl (axis d)))
+        here = In-map axis A (axis d) .1 (q, first, sym (onto q c start ∙ ap (λ n. pos n +ℤ axis d) z ∙ +ℤ-idl (axis d)))
 
         below : (y : ℤ) → In (map axis A) y → axis d ≤ℤ y
         below y h =
             let r = In-map axis A y .0 h in
             let s = cell (r .0) (r .1) in
-            ≤ℤ-to (axis d) y (number (s .0)) (r .2 ∙ back (r .0) ∙ ap (λ p. axis p +ℤ axis d) (s .2) ∙ ap (λ x. x +ℤ axis d) (at (s .0)) ∙ +ℤ-comm (pos (number (s .0))) (axis d))
+            ≤ℤ-to (axis d) y (number (s .0)) (r .2 ∙ onto (r .0) (s .0) (s .2) ∙ +ℤ-comm (pos (number (s .0))) (axis d))

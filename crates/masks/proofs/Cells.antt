@@ -1,4 +1,4 @@
--- Sums of masks in natural numbers: the sum before its offset has no negative coordinate. The offset is forced.
+-- Sums of masks in natural numbers: the sum before its offset has no negative coordinate. A sum of stages touches both axes, so the offset is forced.
 use mathlib.Core.Path.{_≡_, refl, sym, _∙_, ap, ap₂, subst}
 use mathlib.Core.Logic.{_↔_, _⊎_, inl, inr}
 use mathlib.Core.Bool.{Bool, not, _&&_, _||_}
@@ -14,7 +14,9 @@ use Rattle.plane.proofs.Algebra.{+ᵖ-cancel, ≐-sym}
 use Rattle.plane.proofs.Member.{In-map, In-flat, In-any, In-keep, upTo-In, each-below}
 use Rattle.plane.proofs.Tests.{T-and, T-or, clash}
 use Rattle.masks.specs.Chain.{sums, sumOf}
-use Rattle.masks.specs.Mask.{maskCells, maskPoints, normal, stage}
+use Rattle.masks.specs.Mask.{maskCells, maskPoints, hasColumn, hasRow, normal, stage}
+
+-- ---- sums of cells
 
 pub pair : {a b : Cell} → a .0 ≡ b .0 → a .1 ≡ b .1 → a ≡ b
 pair p q = λ i. (p i, q i)
@@ -32,9 +34,12 @@ sumCells (m ∷ ms) = cellSums (maskCells m) (sumCells ms)
 pub In-sums : (A B : List Cell) (c : Cell) → In (cellSums A B) c ↔ ((a : Cell) × (b : Cell) × In A a × In B b × (c ≡ addCell a b))
 unfolding cellSums
 In-sums A B c = (
-  λ h. let r = In-flat (λ a. map (addCell a) B) A c .0 h in let s = In-map (addCell (r .0)) B c .0 (r .2) in (r .0, s .0, r .1, s .1, s .2),
-  λ h. In-flat (λ a. map (addCell a) B) A c .1 (h .0, h .2, In-map (addCell (h .0)) B c .1 (h .1, h .3, h .4)),
+  λ h. let r = In-flat row A c .0 h in let s = In-map (addCell (r .0)) B c .0 (r .2) in (r .0, s .0, r .1, s .1, s .2),
+  λ h. In-flat row A c .1 (h .0, h .2, In-map (addCell (h .0)) B c .1 (h .1, h .3, h .4)),
 )
+  where
+    row : Cell → List Cell
+    row a = map (addCell a) B
 
 map-append′ : {A B : Type 0} (f : A → B) (xs ys : List A) → map f (xs ++ ys) ≡ map f xs ++ map f ys
 map-append′ f [] ys = refl
@@ -68,27 +73,30 @@ pub record Low (A : List Cell) : Type 0 where
 pub normal-low : (m : ℕ) → T (normal m) → Low (maskCells m)
 unfolding normal
 normal-low m t =
-    let u = T-and (any (λ c. eqb (c .0) 0) (maskCells m)) (any (λ c. eqb (c .1) 0) (maskCells m)) .0 t in
+    let u = T-and (hasColumn 0 m) (hasRow 0 m) .0 t in
     let a = In-any (λ c. eqb (c .0) 0) (maskCells m) .0 (u .0) in
     let b = In-any (λ c. eqb (c .1) 0) (maskCells m) .0 (u .1) in
     record { x = a .0; x-in = a .1; x-zero = eqb→eq (a .0 .0) 0 (a .2); y = b .0; y-in = b .1; y-zero = eqb→eq (b .0 .1) 0 (b .2) }
 
-pub stage-normal : (m : ℕ) → T (stage m) → T (normal m)
+-- a stage is a mask of the square, in normal position
+stage-parts : (m : ℕ) → T (stage m) → T (ltb m 512) × T (normal m)
 unfolding stage
-stage-normal m t = T-and (ltb m 512) (normal m) .0 (T-and (ltb m 512 && normal m) (leb 2 (length (maskCells m))) .0 t .0) .1
+stage-parts m t = T-and (ltb m 512) (normal m) .0 (T-and (ltb m 512 && normal m) (leb 2 (length (maskCells m))) .0 t .0)
+
+pub stage-normal : (m : ℕ) → T (stage m) → T (normal m)
+stage-normal m t = stage-parts m t .1
 
 pub stage-below : (m : ℕ) → T (stage m) → m < 512
-unfolding stage
-stage-below m t = ltb→lt m 512 (T-and (ltb m 512) (normal m) .0 (T-and (ltb m 512 && normal m) (leb 2 (length (maskCells m))) .0 t .0) .0)
+stage-below m t = ltb→lt m 512 (stage-parts m t .0)
 
 low-sums : (A B : List Cell) → Low A → Low B → Low (cellSums A B)
 low-sums A B a b = record {
   x = addCell (a .x) (b .x);
   x-in = In-sums A B (addCell (a .x) (b .x)) .1 (a .x, b .x, a .x-in, b .x-in, refl);
-  x-zero = let p = a .x-zero in let q = b .x-zero in omega arith;
+  x-zero = omega arith;
   y = addCell (a .y) (b .y);
   y-in = In-sums A B (addCell (a .y) (b .y)) .1 (a .y, b .y, a .y-in, b .y-in, refl);
-  y-zero = let p = a .y-zero in let q = b .y-zero in omega arith;
+  y-zero = omega arith;
 }
 
 pub sum-low : (ms : List ℕ) → T (all stage ms) → Low (sumCells ms)
@@ -99,9 +107,12 @@ sum-low (m ∷ ms) t =
     low-sums (maskCells m) (sumCells ms) (normal-low m (stage-normal m (u .0))) (sum-low ms (u .1))
 
 -- each stage has a cell off the origin: computed over the masks
+abbrev away : Cell → Bool
+away c = leb 1 (c .0 + c .1)
+
 off : ℕ → Bool
 unfolding stage maskCells
-off m = not (stage m) || any (λ c. leb 1 (c .0 + c .1)) (maskCells m)
+off m = not (stage m) || any away (maskCells m)
 
 off-table : T (all off (upTo 512))
 unfolding off
@@ -109,11 +120,11 @@ off-table = tt
 
 far-stage : (m : ℕ) → T (stage m) → (c : Cell) × In (maskCells m) c × (1 ≤ c .0 + c .1)
 unfolding off
-far-stage m t = go (T-or (not (stage m)) (any (λ c. leb 1 (c .0 + c .1)) (maskCells m)) .0 (each-below off 512 off-table m (stage-below m t)))
+far-stage m t = go (T-or (not (stage m)) (any away (maskCells m)) .0 (each-below off 512 off-table m (stage-below m t)))
   where
-    go : T (not (stage m)) ⊎ T (any (λ c. leb 1 (c .0 + c .1)) (maskCells m)) → (c : Cell) × In (maskCells m) c × (1 ≤ c .0 + c .1)
+    go : T (not (stage m)) ⊎ T (any away (maskCells m)) → (c : Cell) × In (maskCells m) c × (1 ≤ c .0 + c .1)
     go (inl n) = absurd (clash (stage m) n t)
-    go (inr a) = let r = In-any (λ c. leb 1 (c .0 + c .1)) (maskCells m) .0 a in (r .0, r .1, leb→le 1 (r .0 .0 + r .0 .1) (r .2))
+    go (inr a) = let r = In-any away (maskCells m) .0 a in (r .0, r .1, leb→le 1 (r .0 .0 + r .0 .1) (r .2))
 
 pub sum-far : (ms : List ℕ) → T (all stage ms) → (c : Cell) × In (sumCells ms) c × (length ms ≤ c .0 + c .1)
 unfolding sumCells
@@ -122,7 +133,8 @@ sum-far (m ∷ ms) t =
     let u = T-and (stage m) (all stage ms) .0 t in
     let a = far-stage m (u .0) in
     let b = sum-far ms (u .1) in
-    (addCell (a .0) (b .0), In-sums (maskCells m) (sumCells ms) (addCell (a .0) (b .0)) .1 (a .0, b .0, a .1, b .1, refl), (let p = a .2 in let q = b .2 in omega arith))
+    let c = addCell (a .0) (b .0) in
+    (c, In-sums (maskCells m) (sumCells ms) c .1 (a .0, b .0, a .1, b .1, refl), omega arith)
 
 -- ---- the offset is forced
 
@@ -134,19 +146,27 @@ both-ways a b k l p q = go k p (sym (ap negℤ p) ∙ negℤ-+ℤ a (negℤ b) �
     go zero p r = sym (-ℤ-+ℤ-cancel a b) ∙ ap (λ x. x +ℤ b) p ∙ +ℤ-idl b
     go (suc k) p r = absurd (pos-ne-negsuc l k (sym r))
 
--- where one set is two lists of cells moved, each touching both axes, the moves are the same
-step : (A B : List Cell) (d e : Point) → moved d (In (map point A)) ≐ moved e (In (map point B)) → Low A → (k : ℕ) × (l : ℕ) × (d .0 -ℤ e .0 ≡ pos k) × (d .1 -ℤ e .1 ≡ pos l)
+-- where one set is two lists of cells moved, the first touching both axes, its move less the other is not negative
+step : (A B : List Cell) (d e : Point) → moved d (In (map point A)) ≐ moved e (In (map point B)) → Low A
+    → (k : ℕ) × (l : ℕ) × (d .0 -ℤ e .0 ≡ pos k) × (d .1 -ℤ e .1 ≡ pos l)
 unfolding _+ᵖ_ negᵖ
 step A B d e s a =
-    let find : (c : Cell) → In A c → (b : Cell) × In B b × (point c +ᵖ d -ᵖ e ≡ point b) = λ c h.
-    In-map point B (point c +ᵖ d -ᵖ e) .0 (s (point c +ᵖ d) .0 (subst (In (map point A)) (sym (+ᵖ-cancel (point c) d)) (In-map point A (point c) .1 (c, h, refl)))) in
     let u = find (a .x) (a .x-in) in
     let v = find (a .y) (a .y-in) in
-    (u .0 .0, v .0 .1, left (a .x .0) (a .x-zero) (d .0) (e .0) (u .0 .0) (ap (λ p. p .0) (u .2)), left (a .y .1) (a .y-zero) (d .1) (e .1) (v .0 .1) (ap (λ p. p .1) (v .2)))
+    let ex = left (a .x .0) (a .x-zero) (d .0) (e .0) (u .0 .0) (ap (λ p. p .0) (u .2)) in
+    let ey = left (a .y .1) (a .y-zero) (d .1) (e .1) (v .0 .1) (ap (λ p. p .1) (v .2)) in
+    (u .0 .0, v .0 .1, ex, ey)
   where
+    -- a cell of A, moved by d, is a cell of B, moved by e
+    find : (c : Cell) → In A c → (b : Cell) × In B b × (point c +ᵖ d -ᵖ e ≡ point b)
+    find c h =
+        let here = subst (In (map point A)) (sym (+ᵖ-cancel (point c) d)) (In-map point A (point c) .1 (c, h, refl)) in
+        In-map point B (point c +ᵖ d -ᵖ e) .0 (s (point c +ᵖ d) .0 here)
+
     left : (n : ℕ) → n ≡ 0 → (x y : ℤ) (k : ℕ) → pos n +ℤ x -ℤ y ≡ pos k → x -ℤ y ≡ pos k
     left n z x y k h = ap (λ w. w -ℤ y) (sym (+ℤ-idl x) ∙ ap (λ j. pos j +ℤ x) (sym z)) ∙ h
 
+-- where each touches both axes, the moves are the same
 pub same-move : (A B : List Cell) (d e : Point) → moved d (In (map point A)) ≐ moved e (In (map point B)) → Low A → Low B → d ≡ e
 same-move A B d e s a b =
     let u = step A B d e s a in
@@ -155,19 +175,27 @@ same-move A B d e s a b =
 
 -- ---- no sum is wider or higher than two for each mask: fewer stages than half the greater extent are not enough
 
-mask-small : (m : ℕ) (c : Cell) → In (maskCells m) c → (c .0 ≤ 2) × (c .1 ≤ 2)
+-- no farther than n from either axis
+abbrev Upto : ℕ → Cell → Type 0
+Upto n c = (c .0 ≤ n) × (c .1 ≤ n)
+
+-- cell k of the square is (k % 3, k / 3), and k is below 9
+mask-small : (m : ℕ) (c : Cell) → In (maskCells m) c → Upto 2 c
 unfolding maskCells
 mask-small m c h =
-    let r = In-map (λ k. (k % 3, k / 3)) (keep (λ k. eqb (m / 2 ^ k % 2) 1) (upTo 9)) c .0 h in
-    let l = upTo-In 9 (r .0) (In-keep (λ k. eqb (m / 2 ^ k % 2) 1) (upTo 9) (r .0) .0 (r .1) .0) in
-    subst (λ z. (z .0 ≤ 2) × (z .1 ≤ 2)) (sym (r .2)) (omega arith, omega arith)
+    let r = In-map (λ k. (k % 3, k / 3)) (keep isSet (upTo 9)) c .0 h in
+    let l = upTo-In 9 (r .0) (In-keep isSet (upTo 9) (r .0) .0 (r .1) .0) in
+    subst (Upto 2) (sym (r .2)) (omega arith, omega arith)
+  where
+    isSet : ℕ → Bool
+    isSet k = eqb (m / 2 ^ k % 2) 1
 
 pub sum-wide : (ms : List ℕ) (c : Cell) → In (sumCells ms) c → (c .0 ≤ 2 * length ms) × (c .1 ≤ 2 * length ms)
 unfolding sumCells
-sum-wide [] c (inl e) = subst (λ z. (z .0 ≤ 2 * 0) × (z .1 ≤ 2 * 0)) (sym e) (zero-le, zero-le)
+sum-wide [] c (inl e) = subst (Upto (2 * 0)) (sym e) (zero-le, zero-le)
 sum-wide [] c (inr f) = absurd f
 sum-wide (m ∷ ms) c h =
     let r = In-sums (maskCells m) (sumCells ms) c .0 h in
     let a = mask-small m (r .0) (r .2) in
     let b = sum-wide ms (r .1) (r .3) in
-    subst (λ z. (z .0 ≤ 2 * suc (length ms)) × (z .1 ≤ 2 * suc (length ms))) (sym (r .4)) ((let p = a .0 in let q = b .0 in omega arith), (let p = a .1 in let q = b .1 in omega arith))
+    subst (Upto (2 * suc (length ms))) (sym (r .4)) (omega arith, omega arith)

@@ -9,7 +9,7 @@ use lib.Dec.{T, T-not, eqb, eqb→eq}
 use lib.ListN.{length}
 use lib.IntN.{pos}
 use Rattle.plane.specs.Lists.{In, all, upTo, keep}
-use Rattle.plane.specs.Point.{_+ᵖ_, _-ᵖ_, _≐_, moved, Cell, point}
+use Rattle.plane.specs.Point.{Point, _+ᵖ_, _-ᵖ_, _≐_, moved, Cell, point}
 use Rattle.plane.proofs.Algebra.{+ᵖ-cancel, subᵖ-cancel}
 use Rattle.plane.proofs.Member.{In-map, each-below}
 use Rattle.plane.proofs.Tests.{T-and, T-or, eq-eqb}
@@ -34,49 +34,77 @@ same-eq (a ∷ as′) (b ∷ bs) t =
     let e : a ≡ b = λ i. (eqb→eq (a .0) (b .0) (v .0) i, eqb→eq (a .1) (b .1) (v .1) i) in
     ap₂ (λ x xs. x ∷ xs) e (same-eq as′ bs (u .1))
 
+-- a cell s columns and t rows on
+abbrev shifted : ℕ → ℕ → Cell → Cell
+shifted s t c = (c .0 + s, c .1 + t)
+
 -- cells that are other cells moved, as sets of points
-moved-cells : (xs : List Cell) (s t : ℕ) → In (map point (map (λ c. (c .0 + s, c .1 + t)) xs)) ≐ moved (pos s, pos t) (In (map point xs))
+moved-cells : (xs : List Cell) (s t : ℕ) → In (map point (map (shifted s t) xs)) ≐ moved (pos s, pos t) (In (map point xs))
 unfolding _+ᵖ_
 moved-cells xs s t p = (
-  λ h. let r = In-map point (map (λ c. (c .0 + s, c .1 + t)) xs) p .0 h in
-      let q = In-map (λ c. (c .0 + s, c .1 + t)) xs (r .0) .0 (r .1) in
-      In-map point xs (p -ᵖ (pos s, pos t)) .1 (q .0, q .1, ap (λ x. x -ᵖ (pos s, pos t)) (r .2 ∙ ap point (q .2)) ∙ +ᵖ-cancel (point (q .0)) (pos s, pos t)),
-  λ h. let r = In-map point xs (p -ᵖ (pos s, pos t)) .0 h in
-      In-map point (map (λ c. (c .0 + s, c .1 + t)) xs) p .1 ((r .0 .0 + s, r .0 .1 + t), In-map (λ c. (c .0 + s, c .1 + t)) xs (r .0 .0 + s, r .0 .1 + t) .1 (r .0, r .1, refl), sym (subᵖ-cancel p (pos s, pos t)) ∙ ap (λ x. x +ᵖ (pos s, pos t)) (r .2)),
+  λ h. let r = In-map point (map f xs) p .0 h in
+      let q = In-map f xs (r .0) .0 (r .1) in
+      In-map point xs (p -ᵖ d) .1 (q .0, q .1, ap (λ x. x -ᵖ d) (r .2 ∙ ap point (q .2)) ∙ +ᵖ-cancel (point (q .0)) d),
+  λ h. let r = In-map point xs (p -ᵖ d) .0 h in
+      let here = In-map f xs (f (r .0)) .1 (r .0, r .1, refl) in
+      In-map point (map f xs) p .1 (f (r .0), here, sym (subᵖ-cancel p d) ∙ ap (λ x. x +ᵖ d) (r .2)),
 )
+  where
+    d : Point
+    d = (pos s, pos t)
+
+    f : Cell → Cell
+    f = shifted s t
 
 -- ---- the rule of the table
 
 -- the cells of the normal position of m, moved back
 back : ℕ → List Cell
 unfolding maskCells normalOf
-back m = map (λ c. (c .0 + columnShift m, c .1 + rowShift m)) (maskCells (normalOf m))
+back m = map (shifted (columnShift m) (rowShift m)) (maskCells (normalOf m))
 
 -- what the normal position n of a mask is: normal, and a stage unless it is the single cell 1
 single : ℕ → Bool
 unfolding maskCells normal stage
 single n = normal n && (eqb n 1 || stage n)
 
--- the rule at m: the mask is its normal position moved; that of 0 is 0, and any other is normal
+-- the normal position of 0 is 0, and that of any other mask is normal
+kind : ℕ → Bool
+unfolding normalOf single
+kind m = eqb m 0 && eqb (normalOf m) 0 || not (eqb m 0) && single (normalOf m)
+
+-- the rule at m: the mask is its normal position moved, and that position is of the right kind
 right : ℕ → Bool
-unfolding back single sameCells
-right m = sameCells (maskCells m) (back m) && (eqb m 0 && eqb (normalOf m) 0 || not (eqb m 0) && single (normalOf m))
+unfolding back kind sameCells
+right m = sameCells (maskCells m) (back m) && kind m
 
 -- the whole table, tested
 table : T (all right (upTo 512))
 unfolding right
 table = tt
 
-pub normal-move : (m : ℕ) → m < 512 → Mask m ≐ moved (pos (columnShift m), pos (rowShift m)) (Mask (normalOf m))
-unfolding right back
-normal-move m h =
-    let t = T-and (sameCells (maskCells m) (back m)) (eqb m 0 && eqb (normalOf m) 0 || not (eqb m 0) && single (normalOf m)) .0 (each-below right 512 table m h) .0 in
-    subst (λ cs. In (map point cs) ≐ moved (pos (columnShift m), pos (rowShift m)) (Mask (normalOf m))) (sym (same-eq (maskCells m) (back m) t)) (moved-cells (maskCells (normalOf m)) (columnShift m) (rowShift m))
+-- the table's rule at each mask
+checked : (m : ℕ) → m < 512 → T (sameCells (maskCells m) (back m)) × T (kind m)
+unfolding right
+checked m h = T-and (sameCells (maskCells m) (back m)) (kind m) .0 (each-below right 512 table m h)
 
--- 0, or normal and either the single cell 1 or a stage
+pub normal-move : (m : ℕ) → m < 512 → Mask m ≐ moved (pos (columnShift m), pos (rowShift m)) (Mask (normalOf m))
+unfolding back
+normal-move m h = subst (λ cs. In (map point cs) ≐ moved d (Mask (normalOf m))) (sym same) (moved-cells (maskCells (normalOf m)) (columnShift m) (rowShift m))
+  where
+    d : Point
+    d = (pos (columnShift m), pos (rowShift m))
+
+    same : maskCells m ≡ back m
+    same = same-eq (maskCells m) (back m) (checked m h .0)
+
+-- n is 0 for 0, and for any other mask normal and either the single cell 1 or a stage
+abbrev Kind : ℕ → ℕ → Type 0
+Kind m n = ((m ≡ 0) × (n ≡ 0)) ⊎ ((m ≢ 0) × T (normal n) × ((n ≡ 1) ⊎ T (stage n)))
+
 pub normal-or-zero : (m : ℕ) → m < 512 → ((m ≡ 0) × (normalOf m ≡ 0)) ⊎ ((m ≢ 0) × T (normal (normalOf m)) × ((normalOf m ≡ 1) ⊎ T (stage (normalOf m))))
-unfolding right single
-normal-or-zero m h = go (T-or (eqb m 0 && eqb (normalOf m) 0) (not (eqb m 0) && single (normalOf m)) .0 (T-and (sameCells (maskCells m) (back m)) _ .0 (each-below right 512 table m h) .1))
+unfolding kind single
+normal-or-zero m h = go (T-or (eqb m 0 && eqb n 0) (not (eqb m 0) && single n) .0 (checked m h .1))
   where
     n : ℕ
     n = normalOf m
@@ -85,30 +113,23 @@ normal-or-zero m h = go (T-or (eqb m 0 && eqb (normalOf m) 0) (not (eqb m 0) && 
     which (inl t) = inl (eqb→eq n 1 t)
     which (inr t) = inr t
 
-    go : T (eqb m 0 && eqb n 0) ⊎ T (not (eqb m 0) && single n) → ((m ≡ 0) × (n ≡ 0)) ⊎ ((m ≢ 0) × T (normal n) × ((n ≡ 1) ⊎ T (stage n)))
+    go : T (eqb m 0 && eqb n 0) ⊎ T (not (eqb m 0) && single n) → Kind m n
     go (inl t) = let u = T-and (eqb m 0) (eqb n 0) .0 t in inl (eqb→eq m 0 (u .0), eqb→eq n 0 (u .1))
     go (inr t) =
-        let u = T-and (not (eqb m 0)) (normal n && (eqb n 1 || stage n)) .0 t in
+        let u = T-and (not (eqb m 0)) (single n) .0 t in
         let v = T-and (normal n) (eqb n 1 || stage n) .0 (u .1) in
         inr ((λ e. T-not (eqb m 0) (u .0) (eq-eqb e)), v .0, which (T-or (eqb n 1) (stage n) .0 (v .1)))
 
 -- the rule, carried to each entry
 pub normal-position : (m : ℕ) → m < 512 → NormalPosition m (normalOf m)
-normal-position m h = record { entry = refl; zero = zero; normal-is = is; shift = (pos (columnShift m), pos (rowShift m)); move = normal-move m h }
+normal-position m h = record { entry = refl; zero = is .0; normal-is = is .1; shift = (pos (columnShift m), pos (rowShift m)); move = normal-move m h }
   where
-    zero : m ≡ 0 → normalOf m ≡ 0
-    zero e = go (normal-or-zero m h)
-      where
-        go : ((m ≡ 0) × (normalOf m ≡ 0)) ⊎ ((m ≢ 0) × T (normal (normalOf m)) × ((normalOf m ≡ 1) ⊎ T (stage (normalOf m)))) → normalOf m ≡ 0
-        go (inl u) = u .1
-        go (inr u) = absurd (u .0 e)
+    cases : Kind m (normalOf m) → (m ≡ 0 → normalOf m ≡ 0) × (m ≢ 0 → T (normal (normalOf m)))
+    cases (inl u) = (λ _. u .1, λ f. absurd (f (u .0)))
+    cases (inr u) = (λ e. absurd (u .0 e), λ _. u .1)
 
-    is : m ≢ 0 → T (normal (normalOf m))
-    is f = go (normal-or-zero m h)
-      where
-        go : ((m ≡ 0) × (normalOf m ≡ 0)) ⊎ ((m ≢ 0) × T (normal (normalOf m)) × ((normalOf m ≡ 1) ⊎ T (stage (normalOf m)))) → T (normal (normalOf m))
-        go (inl u) = absurd (f (u .0))
-        go (inr u) = u .1
+    is : (m ≡ 0 → normalOf m ≡ 0) × (m ≢ 0 → T (normal (normalOf m)))
+    is = cases (normal-or-zero m h)
 
 -- ---- how many there are
 

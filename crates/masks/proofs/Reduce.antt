@@ -1,9 +1,9 @@
--- A chain of any masks gives a plan with no more stages.
+-- A chain of any masks gives a plan with no more stages: each mask is put in normal position, single cells are left out, and the stages are sorted.
 use mathlib.Core.Path.{_≡_, refl, sym, _∙_, ap, subst}
 use mathlib.Core.Logic.{_≢_, _⊎_, inl, inr}
 use mathlib.Core.Bool.{Bool, true, false, not, cond}
 use mathlib.Core.List.{List, [], _∷_}
-use Prim.Native.Nat.{ℕ, suc, _≤_, suc-le-suc}
+use Prim.Native.Nat.{ℕ, suc, _≤_, _<_, suc-le-suc}
 use native.Mathlib.Omega.{arith}
 use native.Mathlib.Nat.{le-refl, le-trans, le-suc}
 use lib.Dec.{leb→le, nleb→lt, T, leb, ltb, ltb→lt}
@@ -35,8 +35,11 @@ mask-zero p h = h
 -- the single cell adds nothing
 one-more : (ms : List ℕ) → In (sumOf (1 ∷ ms)) ≐ In (sumOf ms)
 unfolding maskCells
-one-more ms = ≐-trans (sum-cons 1 ms) (≐-trans (⊕-comm (Mask 1) (In (sumOf ms))) (≐-trans (⊕-cong (≐-refl (In (sumOf ms))) single) (≐-trans (⊕-only (In (sumOf ms)) origin) (moved-origin (In (sumOf ms))))))
+one-more ms = ≐-trans (sum-cons 1 ms) (≐-trans (⊕-comm (Mask 1) S) (≐-trans (⊕-cong (≐-refl S) single) (≐-trans (⊕-only S origin) (moved-origin S))))
   where
+    S : PointSet
+    S = In (sumOf ms)
+
     pick : (p : Point) → (p ≡ origin) ⊎ ⊥ → p ≡ origin
     pick p (inl e) = e
     pick p (inr f) = absurd f
@@ -46,7 +49,10 @@ one-more ms = ≐-trans (sum-cons 1 ms) (≐-trans (⊕-comm (Mask 1) (In (sumOf
 
 pub reduce : (ms : List ℕ) → T (all subset ms) → Empty (In (sumOf ms)) ⊎ Reduced ms
 reduce [] h = inr (record { stages = []; offset = origin; all-stages = tt; count = le-refl 0; sum = ≐-sym (moved-origin (In (sumOf []))) })
-reduce (m ∷ ms) h = let u = T-and (subset m) (all subset ms) .0 h in let l = ltb→lt m 512 (u .0) in go (normal-or-zero m l) (normal-move m l) (reduce ms (u .1))
+reduce (m ∷ ms) h =
+    let u = T-and (subset m) (all subset ms) .0 h in
+    let l = ltb→lt m 512 (u .0) in
+    go (normal-or-zero m l) (normal-move m l) (reduce ms (u .1))
   where
     n : ℕ
     n = normalOf m
@@ -54,6 +60,7 @@ reduce (m ∷ ms) h = let u = T-and (subset m) (all subset ms) .0 h in let l = l
     shift : Point
     shift = (pos (columnShift m), pos (rowShift m))
 
+    -- the mask is replaced by its normal position, and the offset grows by the shift
     keepOne : Mask m ≐ moved shift (Mask n) → (r : Reduced ms) → In (sumOf (m ∷ ms)) ≐ moved (shift +ᵖ r .offset) (In (sumOf (n ∷ r .stages)))
     keepOne q r =
         ≐-trans (sum-cons m ms) (≐-trans (⊕-cong q (r .sum))
@@ -65,7 +72,8 @@ reduce (m ∷ ms) h = let u = T-and (subset m) (all subset ms) .0 h in let l = l
       offset = shift +ᵖ r .offset;
       all-stages = r .all-stages;
       count = le-trans (r .count) (le-suc (length ms));
-      sum = ≐-trans (keepOne q r) (moved-cong (shift +ᵖ r .offset) (subst (λ k. In (sumOf (k ∷ r .stages)) ≐ In (sumOf (r .stages))) (sym e) (one-more (r .stages))));
+      sum = let same = subst (λ k. In (sumOf (k ∷ r .stages)) ≐ In (sumOf (r .stages))) (sym e) (one-more (r .stages)) in
+          ≐-trans (keepOne q r) (moved-cong (shift +ᵖ r .offset) same);
     }
     add q (inr t) r = record {
       stages = n ∷ r .stages;
@@ -75,7 +83,8 @@ reduce (m ∷ ms) h = let u = T-and (subset m) (all subset ms) .0 h in let l = l
       sum = keepOne q r;
     }
 
-    go : ((m ≡ 0) × (n ≡ 0)) ⊎ ((m ≢ 0) × T (normal n) × ((n ≡ 1) ⊎ T (stage n))) → Mask m ≐ moved shift (Mask n) → Empty (In (sumOf ms)) ⊎ Reduced ms → Empty (In (sumOf (m ∷ ms))) ⊎ Reduced (m ∷ ms)
+    go : ((m ≡ 0) × (n ≡ 0)) ⊎ ((m ≢ 0) × T (normal n) × ((n ≡ 1) ⊎ T (stage n))) → Mask m ≐ moved shift (Mask n) → Empty (In (sumOf ms)) ⊎ Reduced ms
+        → Empty (In (sumOf (m ∷ ms))) ⊎ Reduced (m ∷ ms)
     go (inl z) q r = inl (λ p k. let s = sum-cons m ms p .0 k in mask-zero (s .0) (subst (λ x. Mask x (s .0)) (z .0) (s .2)))
     go (inr z) q (inl f) = inl (λ p k. let s = sum-cons m ms p .0 k in f (s .1) (s .3))
     go (inr z) q (inr r) = inr (add q (z .2) r)
@@ -90,24 +99,27 @@ sort : List ℕ → List ℕ
 sort [] = []
 sort (m ∷ ms) = insert m (sort ms)
 
+-- what holds of both outcomes holds of the list with m put in
+insert-ind : (m k : ℕ) (ks : List ℕ) (P : List ℕ → Type 0) → (m ≤ k → P (m ∷ k ∷ ks)) → (k < m → P (k ∷ insert m ks)) → P (insert m (k ∷ ks))
+unfolding insert
+insert-ind m k ks P low high = cond-ind (leb m k) (m ∷ k ∷ ks) (k ∷ insert m ks) P (λ b. low (leb→le m k b)) (λ b. high (nleb→lt m k b))
+
+-- m put into a list that does not fall, after n, which is not above it
 insert-sorted : (n m : ℕ) (ns : List ℕ) → n ≤ m → T (not (falling (n ∷ ns))) → T (not (falling (n ∷ insert m ns)))
 unfolding insert
 insert-sorted n m [] h t = not-or (ltb m n) false .1 (not-ltb m n h, tt)
 insert-sorted n m (k ∷ ks) h t =
     let u = not-or (ltb k n) (falling (k ∷ ks)) .0 t in
-    put (λ q. insert-sorted k m ks q (u .1)) u
-  where
-    put : (k ≤ m → T (not (falling (k ∷ insert m ks)))) → T (not (ltb k n)) × T (not (falling (k ∷ ks))) → T (not (falling (n ∷ cond (leb m k) (m ∷ k ∷ ks) (k ∷ insert m ks))))
-    put ih u = cond-ind (leb m k) (m ∷ k ∷ ks) (k ∷ insert m ks) (λ l. T (not (falling (n ∷ l))))
-        (λ b. not-or (ltb m n) (falling (m ∷ k ∷ ks)) .1 (not-ltb m n h, not-or (ltb k m) (falling (k ∷ ks)) .1 (not-ltb k m (leb→le m k b), u .1)))
-        (λ b. not-or (ltb k n) (falling (k ∷ insert m ks)) .1 (u .0, ih (let q = nleb→lt m k b in omega arith)))
+    insert-ind m k ks (λ l. T (not (falling (n ∷ l))))
+    (λ b. not-or (ltb m n) (falling (m ∷ k ∷ ks)) .1 (not-ltb m n h, not-or (ltb k m) (falling (k ∷ ks)) .1 (not-ltb k m b, u .1)))
+    (λ b. not-or (ltb k n) (falling (k ∷ insert m ks)) .1 (u .0, insert-sorted k m ks (omega arith) (u .1)))
 
 insert-sorted₀ : (m : ℕ) (ns : List ℕ) → T (not (falling ns)) → T (not (falling (insert m ns)))
 unfolding insert
 insert-sorted₀ m [] t = tt
-insert-sorted₀ m (k ∷ ks) t = cond-ind (leb m k) (m ∷ k ∷ ks) (k ∷ insert m ks) (λ l. T (not (falling l)))
-    (λ b. not-or (ltb k m) (falling (k ∷ ks)) .1 (not-ltb k m (leb→le m k b), t))
-    (λ b. insert-sorted k m ks (let q = nleb→lt m k b in omega arith) t)
+insert-sorted₀ m (k ∷ ks) t = insert-ind m k ks (λ l. T (not (falling l)))
+    (λ b. not-or (ltb k m) (falling (k ∷ ks)) .1 (not-ltb k m b, t))
+    (λ b. insert-sorted k m ks (omega arith) t)
 
 sort-sorted : (ms : List ℕ) → T (not (falling (sort ms)))
 unfolding sort
@@ -117,12 +129,9 @@ sort-sorted (m ∷ ms) = insert-sorted₀ m (sort ms) (sort-sorted ms)
 insert-sum : (m : ℕ) (ns : List ℕ) → In (sumOf (m ∷ ns)) ≐ In (sumOf (insert m ns))
 unfolding insert
 insert-sum m [] = ≐-refl (In (sumOf (m ∷ [])))
-insert-sum m (k ∷ ks) = step (insert-sum m ks)
-  where
-    step : In (sumOf (m ∷ ks)) ≐ In (sumOf (insert m ks)) → In (sumOf (m ∷ k ∷ ks)) ≐ In (sumOf (cond (leb m k) (m ∷ k ∷ ks) (k ∷ insert m ks)))
-    step ih = cond-ind (leb m k) (m ∷ k ∷ ks) (k ∷ insert m ks) (λ l. In (sumOf (m ∷ k ∷ ks)) ≐ In (sumOf l))
-        (λ b. ≐-refl (In (sumOf (m ∷ k ∷ ks))))
-        (λ b. ≐-trans (sum-swap m k ks) (sum-tail k (m ∷ ks) (insert m ks) ih))
+insert-sum m (k ∷ ks) = insert-ind m k ks (λ l. In (sumOf (m ∷ k ∷ ks)) ≐ In (sumOf l))
+    (λ _. ≐-refl (In (sumOf (m ∷ k ∷ ks))))
+    (λ _. ≐-trans (sum-swap m k ks) (sum-tail k (m ∷ ks) (insert m ks) (insert-sum m ks)))
 
 sort-sum : (ms : List ℕ) → In (sumOf ms) ≐ In (sumOf (sort ms))
 unfolding sort
@@ -134,11 +143,9 @@ unfolding insert
 insert-all f m [] t u = T-and (f m) true .1 (t, tt)
 insert-all f m (k ∷ ks) t u =
     let v = T-and (f k) (all f ks) .0 u in
-    step (insert-all f m ks t (v .1)) v
-  where
-    step : T (all f (insert m ks)) → T (f k) × T (all f ks) → T (all f (cond (leb m k) (m ∷ k ∷ ks) (k ∷ insert m ks)))
-    step ih v = cond-ind (leb m k) (m ∷ k ∷ ks) (k ∷ insert m ks) (λ l. T (all f l))
-        (λ b. T-and (f m) (all f (k ∷ ks)) .1 (t, u)) (λ b. T-and (f k) (all f (insert m ks)) .1 (v .0, ih))
+    insert-ind m k ks (λ l. T (all f l))
+    (λ _. T-and (f m) (all f (k ∷ ks)) .1 (t, u))
+    (λ _. T-and (f k) (all f (insert m ks)) .1 (v .0, insert-all f m ks t (v .1)))
 
 sort-all : (f : ℕ → Bool) (ms : List ℕ) → T (all f ms) → T (all f (sort ms))
 unfolding sort
@@ -148,10 +155,7 @@ sort-all f (m ∷ ms) t = let v = T-and (f m) (all f ms) .0 t in insert-all f m 
 insert-length : (m : ℕ) (ns : List ℕ) → length (insert m ns) ≡ suc (length ns)
 unfolding insert
 insert-length m [] = refl
-insert-length m (k ∷ ks) = step (insert-length m ks)
-  where
-    step : length (insert m ks) ≡ suc (length ks) → length (cond (leb m k) (m ∷ k ∷ ks) (k ∷ insert m ks)) ≡ suc (suc (length ks))
-    step ih = cond-ind (leb m k) (m ∷ k ∷ ks) (k ∷ insert m ks) (λ l. length l ≡ suc (suc (length ks))) (λ b. refl) (λ b. ap suc ih)
+insert-length m (k ∷ ks) = insert-ind m k ks (λ l. length l ≡ suc (suc (length ks))) (λ _. refl) (λ _. ap suc (insert-length m ks))
 
 sort-length : (ms : List ℕ) → length (sort ms) ≡ length ms
 unfolding sort
@@ -177,7 +181,8 @@ shorten S p s c = go (reduce (c .members) (c .masks))
       plan = record {
         stages = sort-all stage (r .stages) (r .all-stages);
         sorted = sort-sorted (r .stages);
-        sum = ≐-trans (c .sum) (≐-trans (moved-cong (c .offset) (≐-trans (r .sum) (moved-cong (r .offset) (sort-sum (r .stages))))) (moved-moved (c .offset) (r .offset) (In (sumOf (sort (r .stages))))));
+        sum = let inner = ≐-trans (r .sum) (moved-cong (r .offset) (sort-sum (r .stages))) in
+            ≐-trans (c .sum) (≐-trans (moved-cong (c .offset) inner) (moved-moved (c .offset) (r .offset) (In (sumOf (sort (r .stages))))));
       };
       count = subst (λ n. n ≤ length (c .members)) (sym (sort-length (r .stages))) (r .count);
     }

@@ -1,7 +1,8 @@
--- Laws of sums and differences of sets of points. Only the group laws of points are used: the first block.
-use mathlib.Core.Path.{_≡_, refl, sym, _∙_, ap, subst, Σ-path}
-use mathlib.Core.Logic.{_↔_, Iff·symm, Iff·trans}
-use lib.IntN.{ℤ, pos, _+ℤ_, negℤ, +ℤ-assoc, +ℤ-comm, +ℤ-idr, +ℤ-invr}
+-- Laws of sums and differences of sets of points, and of sets that are moved. Each is shown point by point, from the laws of the first block: points are a
+-- commutative group.
+use mathlib.Core.Path.{_≡_, refl, sym, _∙_, ap, subst}
+use mathlib.Core.Logic.{_↔_, Iff·trans}
+use lib.IntN.{+ℤ-assoc, +ℤ-comm, +ℤ-idr, +ℤ-invr}
 use Rattle.plane.specs.Point.{Point, _+ᵖ_, negᵖ, _-ᵖ_, origin, PointSet, _≐_, _⊕_, _⊖_, moved, only, opening, closing}
 
 -- ---- points are a commutative group
@@ -34,8 +35,6 @@ pub +ᵖ-cancel : (a d : Point) → a +ᵖ d -ᵖ d ≡ a
 pub subᵖ-cancel : (a d : Point) → a -ᵖ d +ᵖ d ≡ a
 subᵖ-cancel a d = +ᵖ-assoc a (negᵖ d) d ∙ ap (λ x. a +ᵖ x) (+ᵖ-comm (negᵖ d) d ∙ +ᵖ-neg d) ∙ +ᵖ-origin a
 
-ruleset point·sort = (+ᵖ-assoc, +ᵖ-comm, +ᵖ-left)
-
 -- ---- the same points: an equivalence, and a congruence
 
 pub ≐-refl : (X : PointSet) → X ≐ X
@@ -59,7 +58,10 @@ moved-cong d e p = e (p -ᵖ d)
 -- ---- sums
 
 pub ⊕-comm : (X Y : PointSet) → X ⊕ Y ≐ Y ⊕ X
-⊕-comm X Y p = (λ h. (h .1, h .0, h .3, h .2, +ᵖ-comm (h .1) (h .0) ∙ h .4), λ h. (h .1, h .0, h .3, h .2, +ᵖ-comm (h .1) (h .0) ∙ h .4))
+⊕-comm X Y p = (swap X Y, swap Y X)
+  where
+    swap : (X Y : PointSet) → (X ⊕ Y) p → (Y ⊕ X) p
+    swap X Y h = (h .1, h .0, h .3, h .2, +ᵖ-comm (h .1) (h .0) ∙ h .4)
 
 pub ⊕-assoc : (X A B : PointSet) → (X ⊕ A) ⊕ B ≐ X ⊕ (A ⊕ B)
 ⊕-assoc X A B p = (
@@ -109,14 +111,17 @@ pub ⊖-moved : (d : Point) (X A : PointSet) (p : Point) → (X ⊖ moved d A) p
 
 -- moves add up
 pub moved-moved : (d e : Point) (X : PointSet) → moved d (moved e X) ≐ moved (d +ᵖ e) X
-moved-moved d e X = ≐-trans (≐-sym (⊕-only (moved e X) d)) (≐-trans (⊕-cong (≐-sym (⊕-only X e)) (≐-refl (only d))) (≐-trans (λ p. (
-  λ h. let s = h .2 in subst X (step (h .0) (h .1) (s .0) (s .1) p (s .3) (s .4) (h .3) (h .4)) (s .2),
-  λ h. ((p -ᵖ (d +ᵖ e)) +ᵖ e, d, (p -ᵖ (d +ᵖ e), e, h, refl, refl), refl, +ᵖ-assoc (p -ᵖ (d +ᵖ e)) e d ∙ ap (λ x. (p -ᵖ (d +ᵖ e)) +ᵖ x) (+ᵖ-comm e d) ∙ subᵖ-cancel p (d +ᵖ e)),
-)) (≐-refl (moved (d +ᵖ e) X))))
+moved-moved d e X p = (subst X both, subst X (sym both))
   where
-    step : (a b u v p : Point) → v ≡ e → u +ᵖ v ≡ a → b ≡ d → a +ᵖ b ≡ p → u ≡ p -ᵖ (d +ᵖ e)
-    step a b u v p q r s t =
-        sym (+ᵖ-cancel u (d +ᵖ e)) ∙ ap (λ x. x -ᵖ (d +ᵖ e)) (ap (λ x. u +ᵖ x) (+ᵖ-comm d e) ∙ sym (+ᵖ-assoc u e d) ∙ ap (λ x. u +ᵖ x +ᵖ d) (sym q) ∙ ap (λ x. x +ᵖ d) r ∙ ap (λ x. a +ᵖ x) (sym s) ∙ t)
+    start : Point
+    start = p -ᵖ d -ᵖ e
+
+    -- d and e added again lead back to p
+    again : start +ᵖ (d +ᵖ e) ≡ p
+    again = ap (λ x. start +ᵖ x) (+ᵖ-comm d e) ∙ sym (+ᵖ-assoc start e d) ∙ ap (λ x. x +ᵖ d) (subᵖ-cancel (p -ᵖ d) e) ∙ subᵖ-cancel p d
+
+    both : start ≡ p -ᵖ (d +ᵖ e)
+    both = sym (+ᵖ-cancel start (d +ᵖ e)) ∙ ap (λ x. x -ᵖ (d +ᵖ e)) again
 
 pub moved-both : (d e : Point) (X Y : PointSet) → moved d X ⊕ moved e Y ≐ moved (d +ᵖ e) (X ⊕ Y)
 moved-both d e X Y = ≐-trans (≐-sym (moved-⊕-left d X (moved e Y))) (≐-trans (moved-cong d (≐-sym (moved-⊕ e X Y))) (moved-moved d e (X ⊕ Y)))
@@ -131,7 +136,9 @@ moved-origin X p = (subst X (same p), subst X (sym (same p)))
 pub opening-moved : (d : Point) (X A : PointSet) → opening X (moved d A) ≐ opening X A
 opening-moved d X A p = (
   λ h. (h .0 +ᵖ d, h .1 -ᵖ d, ⊖-moved d X A (h .0) .0 (h .2), h .3, shift (h .0) (h .1) ∙ h .4),
-  λ h. (h .0 -ᵖ d, h .1 +ᵖ d, ⊖-moved d X A (h .0 -ᵖ d) .1 (subst (X ⊖ A) (sym (subᵖ-cancel (h .0) d)) (h .2)), subst A (sym (+ᵖ-cancel (h .1) d)) (h .3), shift′ (h .0) (h .1) ∙ h .4),
+  λ h. let left = subst (X ⊖ A) (sym (subᵖ-cancel (h .0) d)) (h .2) in
+      let in-A = subst A (sym (+ᵖ-cancel (h .1) d)) (h .3) in
+      (h .0 -ᵖ d, h .1 +ᵖ d, ⊖-moved d X A (h .0 -ᵖ d) .1 left, in-A, shift′ (h .0) (h .1) ∙ h .4),
 )
   where
     shift : (a b : Point) → (a +ᵖ d) +ᵖ (b -ᵖ d) ≡ a +ᵖ b

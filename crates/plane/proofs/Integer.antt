@@ -1,21 +1,27 @@
--- Integers and natural numbers: the differences that cells make, and the order of the integers.
+-- Integers and natural numbers: the differences that cells make, and the order of the integers. A difference is one natural number or the negative of
+-- one, by which of the two is greater.
 use mathlib.Core.Path.{_≡_, refl, sym, _∙_, ap, subst}
 use mathlib.Core.Bool.{not}
 use Prim.Native.Nat.{ℕ, zero, suc, _+_, _-_, _≤_, _<_}
 use native.Mathlib.Nat.{le-antisymm, le-of-lt}
 use native.Mathlib.Omega.{arith}
-use lib.Dec.{T, ltb, ltb→lt, lt→ltb, leb→le, le→leb, T-not, not-T}
+use lib.Dec.{T, ltb, ltb→lt, nltb→le, leb→le, le→leb, not-T}
 use lib.IntN.{ℤ, pos, negsuc, _+ℤ_, _-ℤ_, natAbs, +ℤ-assoc, +ℤ-comm, +ℤ-negℤ-cancel}
 use lib.Signed.{ltZ, leZ, _≤ℤ_, ltZ-yes, clashℤ}
 use Rattle.plane.proofs.Tests.{cond-ind}
 
+-- the difference of a number and a positive number, case by case
+diff-ind : (x i : ℕ) (P : ℤ → Type 0) → (x < suc i → P (negsuc (suc i - suc x))) → (suc i ≤ x → P (pos (x - suc i))) → P (pos x -ℤ pos (suc i))
+diff-ind x i P below above =
+    cond-ind (ltb x (suc i)) (negsuc (suc i - suc x)) (pos (x - suc i)) P (λ t. below (ltb→lt x (suc i) t)) (λ t. above (nltb→le x (suc i) t))
+
 pub diff-ge : (x i : ℕ) → i ≤ x → pos x -ℤ pos i ≡ pos (x - i)
 diff-ge x zero h = ap pos (omega arith)
-diff-ge x (suc i) h = cond-ind (ltb x (suc i)) (negsuc (suc i - suc x)) (pos (x - suc i)) (λ z. z ≡ pos (x - suc i)) (λ t. absurd (let l = ltb→lt x (suc i) t in omega arith)) (λ t. refl)
+diff-ge x (suc i) h = diff-ind x i (λ z. z ≡ pos (x - suc i)) (λ l. absurd (omega arith)) (λ _. refl)
 
 pub diff-lt : (x i : ℕ) → x < i → pos x -ℤ pos i ≡ negsuc (i - suc x)
 diff-lt x zero h = absurd (omega arith)
-diff-lt x (suc i) h = cond-ind (ltb x (suc i)) (negsuc (suc i - suc x)) (pos (x - suc i)) (λ z. z ≡ negsuc (suc i - suc x)) (λ t. refl) (λ t. absurd (T-not (ltb x (suc i)) t (lt→ltb x (suc i) h)))
+diff-lt x (suc i) h = diff-ind x i (λ z. z ≡ negsuc (suc i - suc x)) (λ _. refl) (λ l. absurd (omega arith))
 
 -- ---- sums
 
@@ -43,8 +49,7 @@ pub ≤ℤ-to : (a b : ℤ) (k : ℕ) → b ≡ a +ℤ pos k → a ≤ℤ b
   where
     up : (a : ℤ) → T (leZ a (a +ℤ pos k))
     up (pos a) = le→leb a (a + k) (omega arith)
-    up (negsuc a) =
-        cond-ind (ltb k (suc a)) (negsuc (suc a - suc k)) (pos (k - suc a)) (λ z. T (leZ (negsuc a) z)) (λ t. le→leb (suc a - suc k) a (omega arith)) (λ t. tt)
+    up (negsuc a) = diff-ind k a (λ z. T (leZ (negsuc a) z)) (λ l. le→leb (suc a - suc k) a (omega arith)) (λ _. tt)
 
 pub ≤ℤ-trans : (a b c : ℤ) → a ≤ℤ b → b ≤ℤ c → a ≤ℤ c
 ≤ℤ-trans a b c h k =

@@ -1,11 +1,11 @@
--- Membership in lists, and tests over all members of a list.
+-- Membership in lists, and tests over all members of a list, each by induction on the list.
 use mathlib.Core.Path.{_≡_, refl, sym, _∙_, ap, subst}
-use mathlib.Core.Logic.{_↔_, _⊎_, inl, inr}
-use mathlib.Core.Bool.{Bool, true, false, not, cond, _&&_, _||_}
+use mathlib.Core.Logic.{_↔_, _⊎_, inl, inr, Iff·trans}
+use mathlib.Core.Bool.{Bool, true, false, not, cond, _||_}
 use mathlib.Core.List.{List, [], _∷_, _++_, map}
 use Prim.Native.Nat.{ℕ, zero, suc, _+_, _≤_, _<_}
 use native.Mathlib.Omega.{arith}
-use native.Mathlib.Nat.{zero-add, le-refl}
+use native.Mathlib.Nat.{le-refl}
 use native.Mathlib.Decide.{ℕ-discrete, decLe}
 use native.Mathlib.Numerals.{add-one}
 use lib.Dec.{T, T-not, not-T}
@@ -38,17 +38,21 @@ module _ {A : Type 0} where
       from ih (inl (inr h)) = inr (ih (inl h))
       from ih (inr h) = inr (ih (inr h))
 
+  -- some member of x ∷ xs has Q where x has it or some member of xs has it
+  some-cons : {R : Type 0} (Q : A → Type 0) (x : A) (xs : List A) → R ↔ ((a : A) × In xs a × Q a) → (Q x ⊎ R) ↔ ((a : A) × In (x ∷ xs) a × Q a)
+  some-cons {R} Q x xs rest = (to, λ h. from (h .0) (h .1) (h .2))
+    where
+      to : Q x ⊎ R → (a : A) × In (x ∷ xs) a × Q a
+      to (inl q) = (x, inl refl, q)
+      to (inr r) = let h = rest .0 r in (h .0, inr (h .1), h .2)
+
+      from : (a : A) → (a ≡ x) ⊎ In xs a → Q a → Q x ⊎ R
+      from a (inl e) q = inl (subst Q e q)
+      from a (inr h) q = inr (rest .1 (a, h, q))
+
   pub In-any : (f : A → Bool) (xs : List A) → T (any f xs) ↔ ((a : A) × In xs a × T (f a))
   In-any f [] = (λ t. absurd t, λ h. absurd (h .1))
-  In-any f (x ∷ xs) = (λ t. to (In-any f xs .0) (T-or (f x) (any f xs) .0 t), λ h. T-or (f x) (any f xs) .1 (from (In-any f xs .1) (h .0) (h .1) (h .2)))
-    where
-      to : (T (any f xs) → (a : A) × In xs a × T (f a)) → T (f x) ⊎ T (any f xs) → (a : A) × ((a ≡ x) ⊎ In xs a) × T (f a)
-      to ih (inl t) = (x, inl refl, t)
-      to ih (inr t) = let h = ih t in (h .0, inr (h .1), h .2)
-
-      from : (((a : A) × In xs a × T (f a)) → T (any f xs)) → (a : A) → (a ≡ x) ⊎ In xs a → T (f a) → T (f x) ⊎ T (any f xs)
-      from ih a (inl e) t = inl (subst (λ z. T (f z)) e t)
-      from ih a (inr h) t = inr (ih (a, h, t))
+  In-any f (x ∷ xs) = Iff·trans (T-or (f x) (any f xs)) (some-cons (λ a. T (f a)) x xs (In-any f xs))
 
   pub In-all : (f : A → Bool) (xs : List A) → T (all f xs) → (a : A) → In xs a → T (f a)
   In-all f [] t a h = absurd h
@@ -89,27 +93,11 @@ module _ {A : Type 0} where
 module _ {A B : Type 0} where
   pub In-map : (f : A → B) (xs : List A) (b : B) → In (map f xs) b ↔ ((a : A) × In xs a × (b ≡ f a))
   In-map f [] b = (λ h. absurd h, λ h. absurd (h .1))
-  In-map f (x ∷ xs) b = (to (In-map f xs b .0), λ h. from (In-map f xs b .1) (h .0) (h .1) (h .2))
-    where
-      to : (In (map f xs) b → (a : A) × In xs a × (b ≡ f a)) → (b ≡ f x) ⊎ In (map f xs) b → (a : A) × ((a ≡ x) ⊎ In xs a) × (b ≡ f a)
-      to ih (inl e) = (x, inl refl, e)
-      to ih (inr h) = let r = ih h in (r .0, inr (r .1), r .2)
-
-      from : (((a : A) × In xs a × (b ≡ f a)) → In (map f xs) b) → (a : A) → (a ≡ x) ⊎ In xs a → b ≡ f a → (b ≡ f x) ⊎ In (map f xs) b
-      from ih a (inl e) q = inl (q ∙ ap f e)
-      from ih a (inr h) q = inr (ih (a, h, q))
+  In-map f (x ∷ xs) b = some-cons (λ a. b ≡ f a) x xs (In-map f xs b)
 
   pub In-flat : (f : A → List B) (xs : List A) (b : B) → In (flat f xs) b ↔ ((a : A) × In xs a × In (f a) b)
   In-flat f [] b = (λ h. absurd h, λ h. absurd (h .1))
-  In-flat f (x ∷ xs) b = (λ h. to (In-flat f xs b .0) (In-append (f x) (flat f xs) b .0 h), λ h. In-append (f x) (flat f xs) b .1 (from (In-flat f xs b .1) (h .0) (h .1) (h .2)))
-    where
-      to : (In (flat f xs) b → (a : A) × In xs a × In (f a) b) → In (f x) b ⊎ In (flat f xs) b → (a : A) × ((a ≡ x) ⊎ In xs a) × In (f a) b
-      to ih (inl e) = (x, inl refl, e)
-      to ih (inr h) = let r = ih h in (r .0, inr (r .1), r .2)
-
-      from : (((a : A) × In xs a × In (f a) b) → In (flat f xs) b) → (a : A) → (a ≡ x) ⊎ In xs a → In (f a) b → In (f x) b ⊎ In (flat f xs) b
-      from ih a (inl e) q = inl (subst (λ z. In (f z) b) e q)
-      from ih a (inr h) q = inr (ih (a, h, q))
+  In-flat f (x ∷ xs) b = Iff·trans (In-append (f x) (flat f xs) b) (some-cons (λ a. In (f a) b) x xs (In-flat f xs b))
 
 pub In-countFrom : (k n a : ℕ) → k ≤ a → a < k + n → In (countFrom k n) a
 In-countFrom k zero a h l = absurd (none k a h l)
@@ -151,7 +139,11 @@ least-member {A} g xs c h = let r = go xs c in (r .0, here r.0 (r .1), r .3)
     here b (inl e) = subst (In xs) (sym e) h
     here b (inr k) = k
 
-    go : (ys : List A) (c : A) → (b : A) × ((b ≡ c) ⊎ In ys b) × (g b ≤ g c) × ((a : A) → In ys a → g b ≤ g a)
+    -- the least of c and the members of ys
+    Least : List A → A → Type 0
+    Least ys c = (b : A) × ((b ≡ c) ⊎ In ys b) × (g b ≤ g c) × ((a : A) → In ys a → g b ≤ g a)
+
+    go : (ys : List A) (c : A) → Least ys c
     go [] c = (c, inl refl, le-refl (g c), λ a k. absurd k)
     go (y ∷ ys) c = pick (go ys c) (decLe (g y) (g (go ys c .0)))
       where
@@ -159,7 +151,7 @@ least-member {A} g xs c h = let r = go xs c in (r .0, here r.0 (r .1), r .3)
         step b (inl e) = inl e
         step b (inr k) = inr (inr k)
 
-        pick : (r : (b : A) × ((b ≡ c) ⊎ In ys b) × (g b ≤ g c) × ((a : A) → In ys a → g b ≤ g a)) → Dec (g y ≤ g (r .0)) → (b : A) × ((b ≡ c) ⊎ ((b ≡ y) ⊎ In ys b)) × (g b ≤ g c) × ((a : A) → (a ≡ y) ⊎ In ys a → g b ≤ g a)
+        pick : (r : Least ys c) → Dec (g y ≤ g (r .0)) → Least (y ∷ ys) c
         pick r (yes q) = (y, inr (inl refl), (let s = r .2 in omega arith), down)
           where
             down : (a : A) → (a ≡ y) ⊎ In ys a → g y ≤ g a

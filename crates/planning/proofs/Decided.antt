@@ -1,4 +1,5 @@
--- What planning's promise decides: for an accepted shape with a picked plan the answer and the words are known, and so they are for one with no chain.
+-- What planning's promise decides: for an accepted shape with a picked plan the answer and the words are known, and so they are for one with no chain. The
+-- picked plan is the only one, and a plan is a chain, so the promise leaves no choice.
 use mathlib.Core.Path.{_≡_, refl, sym, _∙_, ap, ap₂, subst}
 use mathlib.Core.Logic.{_⊎_, inl, inr}
 use mathlib.Core.List.{List, [], _∷_, _++_, map}
@@ -33,7 +34,12 @@ use Rattle.planning.specs.Planning.{planningTests, Planned, PlanWritten,
 
 -- a plan is a chain
 pub chain-of : (S : PointSet) (d : Point) (ms : List ℕ) → PlanOf stage S d ms → Chain subset S
-chain-of S d ms P = record { members = ms; offset = d; masks = all-In subset ms (λ m h. lt→ltb m 512 (stage-below m (In-all stage ms (P .stages) m h))); sum = P .sum }
+chain-of S d ms P = record {
+  members = ms;
+  offset = d;
+  masks = all-In subset ms (λ m h. lt→ltb m 512 (stage-below m (In-all stage ms (P .stages) m h)));
+  sum = P .sum;
+}
 
 -- the picked plan of a set that has a point has no more stages than any chain has members
 pub picked-fewest : (S : PointSet) (p : Point) → S p → (d : Point) (ms : List ℕ) → Picked stage S d ms → (c : Chain subset S) → length ms ≤ length (c .members)
@@ -56,7 +62,9 @@ pub some-point : (ws : List ℕ) → Shaped ws → (p : Point) × Shape ws p
 some-point ws S =
     let c = S .placed .low .x in
     let d = point (S .corner) -ᵖ point (anchor ws) in
-    (point c +ᵖ d, S .placed .set (point c +ᵖ d) .1 (subst (In (map point (S .cells))) (sym (+ᵖ-cancel (point c) d)) (In-map point (S .cells) (point c) .1 (c, S .placed .low .x-in, refl))))
+    let p = point c +ᵖ d in
+    let c-in = In-map point (S .cells) (point c) .1 (c, S .placed .low .x-in, refl) in
+    (p, S .placed .set p .1 (subst (In (map point (S .cells))) (sym (+ᵖ-cancel (point c) d)) c-in))
 
 module _ (ws out : List ℕ) (e : firstOf (planningTests ws out) ≡ 0) (r : Answer) (out′ : List ℕ) (p : Planned ws out r out′) where
   -- with a picked plan: its words, and their number
@@ -79,9 +87,12 @@ module _ (ws out : List ℕ) (e : firstOf (planningTests ws out) ≡ 0) (r : Ans
       go (inr w) = absurd (none (chain-of (Shape ws) (w .offset) (w .stages) (w .picked .plan)))
 
 -- the words that were written, as many as the length returned
-pub written-words : (ws out out′ : List ℕ) (S : Shaped ws) (d : Point) (ms : List ℕ) → PlanOf stage (Shape ws) d ms → out′ ≡ planWords d ms ++ drop (length ms + 2) out → take (length ms + 2) out′ ≡ planWords d ms
+pub written-words : (ws out out′ : List ℕ) (S : Shaped ws) (d : Point) (ms : List ℕ) → PlanOf stage (Shape ws) d ms
+    → out′ ≡ planWords d ms ++ drop (length ms + 2) out → take (length ms + 2) out′ ≡ planWords d ms
 written-words ws out out′ S d ms P w =
-    ap (take (length ms + 2)) w ∙ ap (λ k. take k (planWords d ms ++ drop (length ms + 2) out)) (sym (plan-length ws S d ms P)) ∙ take-append-seam (planWords d ms) (drop (length ms + 2) out)
+    let n = length ms + 2 in
+    let rest = drop n out in
+    ap (take n) w ∙ ap (λ k. take k (planWords d ms ++ rest)) (sym (plan-length ws S d ms P)) ∙ take-append-seam (planWords d ms) rest
 
 -- ---- the promise can be kept wherever there is a picked plan, or no chain
 

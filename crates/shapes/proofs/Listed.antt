@@ -1,4 +1,5 @@
--- The list of a set of points in range: it stands for exactly those points, passes grounds 1 to 4, and is the same for equal sets of points.
+-- The list of a set of points in range: it stands for exactly those points, passes grounds 1 to 4, and is the same for equal sets of points. Its words are
+-- read back field by field, and the least anchor puts every point in the window.
 use mathlib.Core.Path.{_≡_, refl, sym, _∙_, ap, ap₂, subst, fun-ext}
 use mathlib.Core.Logic.{_↔_, inl, inr}
 use mathlib.Core.Bool.{Bool, true, false, not, _&&_, _||_}
@@ -98,9 +99,13 @@ low15 (negsuc n) t = let k = nltb→le 15 (suc n) t in omega arith
 
 -- ---- rows that rise
 
-keep-rising : (f : ℕ → Bool) (k n : ℕ) → T (not (anyNext (λ a b. leb b a) (keep f (countFrom k n))))
+-- each number is above the one before
+abbrev Rising : List ℕ → Type 0
+Rising l = T (not (anyNext (λ a b. leb b a) l))
+
+keep-rising : (f : ℕ → Bool) (k n : ℕ) → Rising (keep f (countFrom k n))
 keep-rising f k zero = tt
-keep-rising f k (suc n) = cond-ind (f k) (k ∷ rest) rest (λ l. T (not (anyNext (λ a b. leb b a) l))) (λ _. add rest (keep-rising f (suc k) n) above) (λ _. keep-rising f (suc k) n)
+keep-rising f k (suc n) = let ih = keep-rising f (suc k) n in cond-ind (f k) (k ∷ rest) rest Rising (λ _. add rest ih above) (λ _. ih)
   where
     rest : List ℕ
     rest = keep f (countFrom (suc k) n)
@@ -108,21 +113,25 @@ keep-rising f k (suc n) = cond-ind (f k) (k ∷ rest) rest (λ l. T (not (anyNex
     above : (a : ℕ) → In rest a → k < a
     above a h = countFrom-In (suc k) n a (In-keep f (countFrom (suc k) n) a .0 h .0) .0
 
-    add : (l : List ℕ) → T (not (anyNext (λ a b. leb b a) l)) → ((a : ℕ) → In l a → k < a) → T (not (anyNext (λ a b. leb b a) (k ∷ l)))
+    add : (l : List ℕ) → Rising l → ((a : ℕ) → In l a → k < a) → Rising (k ∷ l)
     add [] t g = tt
     add (y ∷ ys) t g = not-or (leb y k) (anyNext (λ a b. leb b a) (y ∷ ys)) .1 (not-leb y k (g y (inl refl)), t)
 
-map-rising : (g : ℕ → ℕ) (l : List ℕ) → ((y : ℕ) → In l y → rowY (g y) ≡ y) → T (not (anyNext (λ a b. leb b a) l)) → T (not (anyNext notRising (map g l)))
+-- row words whose y are rising numbers rise
+map-rising : (g : ℕ → ℕ) (l : List ℕ) → ((y : ℕ) → In l y → rowY (g y) ≡ y) → Rising l → T (not (anyNext notRising (map g l)))
 map-rising g [] e t = tt
 map-rising g (y ∷ []) e t = tt
 map-rising g (y ∷ z ∷ zs) e t =
     let u = not-or (leb z y) (anyNext (λ a b. leb b a) (z ∷ zs)) .0 t in
-    not-or (notRising (g y) (g z)) (anyNext notRising (map g (z ∷ zs))) .1
-    (subst (λ n. T (not (leb n (rowY (g y))))) (sym (e z (inr (inl refl)))) (subst (λ n. T (not (leb z n))) (sym (e y (inl refl))) (u .0)), map-rising g (z ∷ zs) (λ w h. e w (inr h)) (u .1))
+    let v = subst (λ n. T (not (leb z n))) (sym (e y (inl refl))) (u .0) in
+    let first = subst (λ n. T (not (leb n (rowY (g y))))) (sym (e z (inr (inl refl)))) v in
+    not-or (notRising (g y) (g z)) (anyNext notRising (map g (z ∷ zs))) .1 (first, map-rising g (z ∷ zs) (λ w h. e w (inr h)) (u .1))
 
 length-keep : (f : ℕ → Bool) (l : List ℕ) → length (keep f l) ≤ length l
 length-keep f [] = le-refl 0
-length-keep f (x ∷ xs) = cond-ind (f x) (x ∷ keep f xs) (keep f xs) (λ l. length l ≤ suc (length xs)) (λ _. suc-le-suc (length-keep f xs)) (λ _. le-trans (length-keep f xs) (le-suc (length xs)))
+length-keep f (x ∷ xs) =
+    let ih = length-keep f xs in
+    cond-ind (f x) (x ∷ keep f xs) (keep f xs) (λ l. length l ≤ suc (length xs)) (λ _. suc-le-suc ih) (λ _. le-trans ih (le-suc (length xs)))
 
 some-length : {A : Type 0} (l : List A) (a : A) → In l a → 1 ≤ length l
 some-length [] a h = absurd h
@@ -130,81 +139,96 @@ some-length (x ∷ xs) a h = suc-le-suc zero-le
 
 -- the columns of a row word are the bits that it was packed from
 row-columns : (b : ℕ → Bool) (y x : ℕ) → In (rowColumns (rowWord y (packed b 0 16))) x ↔ ((x < 16) × T (b x))
-row-columns b y x = subst (λ w. In (rowColumns w) x ↔ ((x < 16) × T (b x))) (sym (top y (packed b 0 16))) (bits-packed b 16 (8192 + y) x)
-  where
-    top : (y c : ℕ) → rowWord y c ≡ 65536 * (8192 + y) + c
-    top y c = omega arith
+row-columns b y x =
+    let top : rowWord y (packed b 0 16) ≡ 65536 * (8192 + y) + packed b 0 16 = omega arith in
+    subst (λ w. In (rowColumns w) x ↔ ((x < 16) × T (b x))) (sym top) (bits-packed b 16 (8192 + y) x)
 
 -- ---- the list of points in range
 
+abbrev far : Point → Bool
+far p = tooFar (p .0) || tooFar (p .1)
+
+-- no coordinate along an axis is farther than 15 from 0
+abbrev Near : (Point → ℤ) → List Point → Type 0
+Near axis A = (p : Point) → In A p → T (not (tooFar (axis p)))
+
+-- the rows that have a cell
+abbrev filled : List Point → List ℕ
+filled A = keep (hasCells A (leastAnchor A)) (upTo 16)
+
+-- no coordinate is farther than 15 from 0, so the least is no farther below
+low-anchor : (axis : Point → ℤ) (A : List Point) → Near axis A → below (least (map axis A)) ≤ 15
+unfolding least
+low-anchor axis [] f = zero-le
+low-anchor axis (b ∷ B) f =
+    let zs = map axis (b ∷ B) in
+    let r = In-map axis (b ∷ B) (least zs) .0 (least-in zs (axis b) (inl refl)) in
+    low15 (least zs) (subst (λ z. T (not (tooFar z))) (sym (r .2)) (f (r .0) (r .1)))
+
 module _ (A : List Point) (fit : T (not (outOfRange A))) where
-  bounds : T (not (ltb 15 (width A))) × T (not (ltb 15 (height A))) × T (not (any (λ p. tooFar (p .0) || tooFar (p .1)) A))
+  bounds : T (not (ltb 15 (width A))) × T (not (ltb 15 (height A))) × T (not (any far A))
   unfolding outOfRange
   bounds =
-      let u = not-or (ltb 15 (width A) || ltb 15 (height A)) (any (λ p. tooFar (p .0) || tooFar (p .1)) A) .0 fit in
+      let u = not-or (ltb 15 (width A) || ltb 15 (height A)) (any far A) .0 fit in
       let v = not-or (ltb 15 (width A)) (ltb 15 (height A)) .0 (u .0) in
       (v .0, v .1, u .1)
 
   near : (p : Point) → In A p → T (not (tooFar (p .0))) × T (not (tooFar (p .1)))
-  near p h = not-or (tooFar (p .0)) (tooFar (p .1)) .0 (no-any (λ p. tooFar (p .0) || tooFar (p .1)) A (bounds .2) p h)
+  near p h = not-or (tooFar (p .0)) (tooFar (p .1)) .0 (no-any far A (bounds .2) p h)
 
-  -- one coordinate of a point above the anchor, and the anchor's own
-  over : (axis : Point → ℤ) → T (not (ltb 15 (span (map axis A)))) → ((p : Point) → In A p → T (not (tooFar (axis p)))) → (p : Point) → In A p → (m : ℕ) × (m ≤ 15) × (axis p +ℤ pos (below (least (map axis A))) ≡ pos m)
+  -- one coordinate of a point, above the anchor
+  over : (axis : Point → ℤ) → T (not (ltb 15 (span (map axis A)))) → Near axis A → (p : Point) → In A p
+      → (m : ℕ) × (m ≤ 15) × (axis p +ℤ pos (below (least (map axis A))) ≡ pos m)
   over axis w f p h =
       let zs = map axis A in
       let i = In-map axis A (axis p) .1 (p, h, refl) in
       place (least zs) (axis p) (least-le zs (axis p) i) (f p h) (span-far zs (axis p) (least zs) 15 i (least-in zs (axis p) i) (nltb→le 15 (span zs) w))
 
-  small : (axis : Point → ℤ) → ((p : Point) → In A p → T (not (tooFar (axis p)))) → below (least (map axis A)) ≤ 15
-  unfolding least
-  small axis f = go A f
-    where
-      go : (B : List Point) → ((p : Point) → In B p → T (not (tooFar (axis p)))) → below (least (map axis B)) ≤ 15
-      go [] g = zero-le
-      go (b ∷ B) g =
-          let zs = map axis (b ∷ B) in
-          let r = In-map axis (b ∷ B) (least zs) .0 (least-in zs (axis b) (inl refl)) in
-          low15 (least zs) (subst (λ z. T (not (tooFar z))) (sym (r .2)) (g (r .0) (r .1)))
-
   abbrev a : Cell
   a = leastAnchor A
 
-  row : ℕ → ℕ
-  unfolding packed
+  abbrev row : ℕ → ℕ
   row y = rowOf A a y
 
   small-a : (a .0 < 16) × (a .1 < 16)
   unfolding leastAnchor
-  small-a = (suc-le-suc (small x-of (λ p h. near p h .0)), suc-le-suc (small y-of (λ p h. near p h .1)))
+  small-a = (suc-le-suc (low-anchor x-of A (λ p h. near p h .0)), suc-le-suc (low-anchor y-of A (λ p h. near p h .1)))
 
   anchor-back : anchor (listed A) ≡ a
   unfolding listed
   anchor-back = λ i. (anchor-x (a .0) (a .1) (small-a .0) i, anchor-y (a .0) (a .1) (small-a .0) (small-a .1) i)
 
   row-back : (y : ℕ) → y < 16 → rowY (row y) ≡ y
-  unfolding row
   row-back y h = row-y y (packed (column A a y) 0 16) h (packed-below (column A a y) 0 16)
+
+  -- the rows, one by one
+  row-in : (w : ℕ) → In (rows (listed A)) w ↔ ((y : ℕ) × (y < 16) × T (hasCells A a y) × (w ≡ row y))
+  unfolding listed
+  row-in w = (
+    λ h. let t = In-map row (filled A) w .0 h in
+        let k = In-keep (hasCells A a) (upTo 16) (t .0) .0 (t .1) in
+        (t .0, upTo-In 16 (t .0) (k .0), k .1, t .2),
+    λ h. In-map row (filled A) w .1 (h .0, In-keep (hasCells A a) (upTo 16) (h .0) .1 (In-upTo 16 (h .0) (h .1), h .2), h .3),
+  )
 
   -- a cell of the list is a column of a row, and stands for a point of A
   cell-of : (c : Cell) → In (shapeCells (listed A)) c ↔ ((c .0 < 16) × (c .1 < 16) × In A (point c -ᵖ point a))
-  unfolding shapeCells listed row
+  unfolding shapeCells
   cell-of c = (
     λ h. let s = In-flat rowCells (rows (listed A)) c .0 h in
-        let t = In-map row (keep (hasCells A a) (upTo 16)) (s .0) .0 (s .1) in
+        let t = row-in (s .0) .0 (s .1) in
         let y = t .0 in
-        let l = upTo-In 16 y (In-keep (hasCells A a) (upTo 16) y .0 (t .1) .0) in
         let u = In-map (λ x. (x, rowY (s .0))) (rowColumns (s .0)) c .0 (s .2) in
-        let v = row-columns (column A a y) y (u .0) .0 (subst (λ w. In (rowColumns w) (u .0)) (t .2) (u .1)) in
-        let e : c ≡ (u .0, y) = u .2 ∙ ap (λ w. (u .0, rowY w)) (t .2) ∙ ap (λ k. (u .0, k)) (row-back y l) in
-        subst (λ z. (z .0 < 16) × (z .1 < 16) × In A (point z -ᵖ point a)) (sym e) (v .0, l, has-in A (point (u .0, y) -ᵖ point a) .0 (v .1)),
+        let v = row-columns (column A a y) y (u .0) .0 (subst (λ w. In (rowColumns w) (u .0)) (t .3) (u .1)) in
+        let e : c ≡ (u .0, y) = u .2 ∙ ap (λ w. (u .0, rowY w)) (t .3) ∙ ap (λ k. (u .0, k)) (row-back y (t .1)) in
+        subst (λ z. (z .0 < 16) × (z .1 < 16) × In A (point z -ᵖ point a)) (sym e) (v .0, t .1, has-in A (point (u .0, y) -ᵖ point a) .0 (v .1)),
     λ h. let x = c .0 in
         let y = c .1 in
         let b : T (column A a y x) = has-in A (point c -ᵖ point a) .1 (h .2) in
-        In-flat rowCells (rows (listed A)) c .1 (
-          row y,
-          In-map row (keep (hasCells A a) (upTo 16)) (row y) .1 (y, In-keep (hasCells A a) (upTo 16) y .1 (In-upTo 16 y (h .1), In-any (column A a y) (upTo 16) .1 (x, In-upTo 16 x (h .0), b)), refl),
-          In-map (λ k. (k, rowY (row y))) (rowColumns (row y)) c .1 (x, row-columns (column A a y) y x .1 (h .0, b), ap (λ k. (x, k)) (sym (row-back y (h .1)))),
-        ),
+        let full = In-any (column A a y) (upTo 16) .1 (x, In-upTo 16 x (h .0), b) in
+        let e : c ≡ (x, rowY (row y)) = ap (λ k. (x, k)) (sym (row-back y (h .1))) in
+        let at = In-map (λ k. (k, rowY (row y))) (rowColumns (row y)) c .1 (x, row-columns (column A a y) y x .1 (h .0, b), e) in
+        In-flat rowCells (rows (listed A)) c .1 (row y, row-in (row y) .1 (y, h .1, full, refl), at),
   )
 
   -- the cell of a point of A
@@ -232,59 +256,44 @@ module _ (A : List Point) (fit : T (not (outOfRange A))) where
         ),
   )
 
-  -- the rows, one by one
-  row-in : (w : ℕ) → In (rows (listed A)) w → (y : ℕ) × (y < 16) × T (hasCells A a y) × (w ≡ row y)
-  unfolding listed row
-  row-in w h =
-      let t = In-map row (keep (hasCells A a) (upTo 16)) w .0 h in
-      let k = In-keep (hasCells A a) (upTo 16) (t .0) .0 (t .1) in
-      (t .0, upTo-In 16 (t .0) (k .0), k .1, t .2)
-
+  -- each row word is fine, and has a column
   row-is : (w : ℕ) → In (rows (listed A)) w → Fine rowKind w
-  unfolding row
-  row-is w h = let r = row-in w h in subst (Fine rowKind) (sym (r .3)) (row-fine (r .0) (packed (column A a (r .0)) 0 16) (r .1) (packed-below (column A a (r .0)) 0 16))
+  row-is w h =
+      let r = row-in w .0 h in
+      let b = column A a (r .0) in
+      subst (Fine rowKind) (sym (r .3)) (row-fine (r .0) (packed b 0 16) (r .1) (packed-below b 0 16))
 
   row-full : (w : ℕ) → In (rows (listed A)) w → T (not (emptyRow w))
-  unfolding row
   row-full w h =
-      let r = row-in w h in
-      let s = In-any (column A a (r .0)) (upTo 16) .0 (r .2) in
-      let c = row-columns (column A a (r .0)) (r .0) (s .0) .1 (upTo-In 16 (s .0) (s .1), s .2) in
+      let r = row-in w .0 h in
+      let b = column A a (r .0) in
+      let s = In-any b (upTo 16) .0 (r .2) in
+      let c = row-columns b (r .0) (s .0) .1 (upTo-In 16 (s .0) (s .1), s .2) in
       let l = some-length (rowColumns w) (s .0) (subst (λ v. In (rowColumns v) (s .0)) (sym (r .3)) c) in
       not-T (emptyRow w) (λ t. let e = eqb→eq (length (rowColumns w)) 0 t in omega arith)
 
-  in-row : (c : Cell) → In (shapeCells (listed A)) c → (w : ℕ) × In (rows (listed A)) w × In (rowCells w) c
-  unfolding shapeCells
-  in-row c h = In-flat rowCells (rows (listed A)) c .0 h
-
-  length-listed : length (rows (listed A)) ≡ length (keep (hasCells A a) (upTo 16))
-  unfolding listed
-  length-listed = length-map (keep (hasCells A a) (upTo 16)) (rowOf A a)
-
   rising : T (not (anyNext notRising (rows (listed A))))
-  unfolding listed row
-  rising = map-rising row (keep (hasCells A a) (upTo 16)) (λ y h. row-back y (upTo-In 16 y (In-keep (hasCells A a) (upTo 16) y .0 h .0))) (keep-rising (hasCells A a) 0 16)
+  unfolding listed
+  rising = map-rising row (filled A) (λ y h. row-back y (upTo-In 16 y (In-keep (hasCells A a) (upTo 16) y .0 h .0))) (keep-rising (hasCells A a) 0 16)
+
+  -- a test of the anchor word and of each row word
+  each : (bad : ℕ → ℕ → Bool) → T (not (bad anchorKind (getD (listed A) 0 0))) → ((w : ℕ) → In (rows (listed A)) w → T (not (bad rowKind w)))
+      → T (not (bad anchorKind (getD (listed A) 0 0) || any (bad rowKind) (rows (listed A))))
+  each bad h k = not-or (bad anchorKind (getD (listed A) 0 0)) (any (bad rowKind) (rows (listed A))) .1 (h, any-no (bad rowKind) (rows (listed A)) k)
 
   -- and passes grounds 1 to 4, if there is a point
   pub listed-clear : (p : Point) → In A p → Clear (shapeTests (listed A))
-  unfolding shapeTests listed
+  unfolding shapeTests shapeCells listed
   listed-clear p h =
       let s = seat p h in
       let c = cell-of (s .0) .1 (s .1, s .2, subst (In A) (sym (s .3)) h) in
-      let r = in-row (s .0) c in
+      let r = In-flat rowCells (rows (listed A)) (s .0) .0 c in
       let low = some-length (rows (listed A)) (r .0) (r .1) in
-      let high = length-keep (hasCells A a) (upTo 16) in
-      let e = length-listed in
-      let first = anchor-fine (a .0) (a .1) (small-a .0) (small-a .1) in (
-        not-or (ltb (length (listed A)) 2) (ltb 17 (length (listed A))) .1 (not-ltb (length (listed A)) 2 (suc-le-suc low), not-ltb 17 (length (listed A)) (suc-le-suc (subst (λ n. n ≤ 16) (sym e) high))),
-        (
-          not-or (wrongKind anchorKind (getD (listed A) 0 0)) (any (wrongKind rowKind) (rows (listed A))) .1 (first .kind-is, any-no (wrongKind rowKind) (rows (listed A)) (λ w k. row-is w k .kind-is)),
-          (
-            not-or (extraBit anchorKind (getD (listed A) 0 0)) (any (extraBit rowKind) (rows (listed A))) .1 (first .bits-named, any-no (extraBit rowKind) (rows (listed A)) (λ w k. row-is w k .bits-named)),
-            (
-              not-or (any emptyRow (rows (listed A))) (anyNext notRising (rows (listed A))) .1 (any-no emptyRow (rows (listed A)) row-full, rising),
-              tt,
-            ),
-          ),
-        ),
-      )
+      let high = subst (λ n. n ≤ 16) (sym (length-map (filled A) (rowOf A a))) (length-keep (hasCells A a) (upTo 16)) in
+      let n = length (listed A) in
+      let long = not-or (ltb n 2) (ltb 17 n) .1 (not-ltb n 2 (suc-le-suc low), not-ltb 17 n (suc-le-suc high)) in
+      let first = anchor-fine (a .0) (a .1) (small-a .0) (small-a .1) in
+      let kinds = each wrongKind (first .kind-is) (λ w k. row-is w k .kind-is) in
+      let bits = each extraBit (first .bits-named) (λ w k. row-is w k .bits-named) in
+      let order = not-or (any emptyRow (rows (listed A))) (anyNext notRising (rows (listed A))) .1 (any-no emptyRow (rows (listed A)) row-full, rising) in
+      (long, (kinds, (bits, (order, tt))))

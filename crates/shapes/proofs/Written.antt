@@ -1,7 +1,8 @@
--- The words of a plan read back as that plan; and the words of an accepted shape's plan stand for the shape's points and pass every ground of a plan list.
+-- The words of a plan read back as that plan, field by field; so the words of an accepted shape's plan stand for the shape's points and pass every ground
+-- of a plan list.
 use mathlib.Core.Path.{_≡_, refl, sym, _∙_, ap, ap₂, subst}
 use mathlib.Core.Logic.{inl, inr}
-use mathlib.Core.Bool.{not, _||_}
+use mathlib.Core.Bool.{Bool, not, _||_}
 use mathlib.Core.List.{List, [], _∷_, map}
 use Prim.Native.Nat.{ℕ, _+_, _-_, _≤_, _<_}
 use native.Mathlib.Omega.{arith}
@@ -58,6 +59,7 @@ module _ (d : Point) (ms : List ℕ) (px py : ℕ) (ex : d .0 +ℤ pos 15 ≡ po
   abbrev plan : List ℕ
   plan = planWords d ms
 
+  -- the place word, and its fields
   word₁ : getD plan 1 0 ≡ placeWord px py
   word₁ = ap₂ (λ a b. placeWord (natAbs a) (natAbs b)) ex ey
 
@@ -73,6 +75,7 @@ module _ (d : Point) (ms : List ℕ) (px py : ℕ) (ex : d .0 +ℤ pos 15 ≡ po
       back : (n k : ℕ) (z : ℤ) → n ≡ k → z +ℤ pos 15 ≡ pos k → pos n -ℤ pos 15 ≡ z
       back n k z p q = ap (λ j. pos j -ℤ pos 15) p ∙ ap (λ w. w -ℤ pos 15) (sym q) ∙ +ℤ-negℤ-cancel z (pos 15)
 
+  -- a stage's mask fits its field
   mask-fits : (m : ℕ) → In ms m → m < 512
   mask-fits m h = stage-below m (In-all stage ms t m h)
 
@@ -87,7 +90,9 @@ module _ (d : Point) (ms : List ℕ) (px py : ℕ) (ex : d .0 +ℤ pos 15 ≡ po
   words-length = let e = length-map ms stageWord in omega arith
 
   pub points-back : In (planPoints plan) ≐ moved d (In (sumOf ms))
-  points-back = subst (λ e. In (planPoints plan) ≐ moved e (In (sumOf ms))) offset-back (subst (λ l. In (planPoints plan) ≐ moved (planOffset plan) (In (sumOf l))) masks-back (plan-points plan))
+  points-back =
+      let s = subst (λ l. In (planPoints plan) ≐ moved (planOffset plan) (In (sumOf l))) masks-back (plan-points plan) in
+      subst (λ e. In (planPoints plan) ≐ moved e (In (sumOf ms))) offset-back s
 
   -- the words, one by one
   head-is : Fine headKind (getD plan 0 0)
@@ -99,34 +104,32 @@ module _ (d : Point) (ms : List ℕ) (px py : ℕ) (ex : d .0 +ℤ pos 15 ≡ po
   stage-is : (w : ℕ) → In (stageWords plan) w → Fine stageKind w
   stage-is w h = let r = In-map stageWord ms w .0 h in subst (Fine stageKind) (sym (r .2)) (stage-fine (r .0) (mask-fits (r .0) (r .1)))
 
+  -- a test of the head word, the place word and each stage word
+  each : (bad : ℕ → ℕ → Bool) → T (not (bad headKind (getD plan 0 0))) → T (not (bad placeKind (getD plan 1 0)))
+      → ((w : ℕ) → In (stageWords plan) w → T (not (bad stageKind w)))
+      → T (not (bad headKind (getD plan 0 0) || bad placeKind (getD plan 1 0) || any (bad stageKind) (stageWords plan)))
+  each bad h p s =
+      let a = bad headKind (getD plan 0 0) in
+      let b = bad placeKind (getD plan 1 0) in
+      not-or (a || b) (any (bad stageKind) (stageWords plan)) .1 (not-or a b .1 (h, p), any-no (bad stageKind) (stageWords plan) s)
+
   -- the list passes every ground, where its points are in range
   pub words-clear : T (not (falling ms)) → T (not (outOfRange (planPoints plan))) → Clear (planTests plan)
   unfolding planTests
-  words-clear s fit = (
-    not-or (ltb (length plan) 2) (ltb 32 (length plan)) .1 (not-ltb (length plan) 2 (let e = words-length in omega arith), not-ltb 32 (length plan) (let e = words-length in omega arith)),
-    (
-      not-or (wrongKind headKind (getD plan 0 0) || wrongKind placeKind (getD plan 1 0)) (any (wrongKind stageKind) (stageWords plan)) .1 (
-        not-or (wrongKind headKind (getD plan 0 0)) (wrongKind placeKind (getD plan 1 0)) .1 (head-is .kind-is, place-is .kind-is),
-        any-no (wrongKind stageKind) (stageWords plan) (λ w h. stage-is w h .kind-is),
-      ),
-      (
-        not-or (extraBit headKind (getD plan 0 0) || extraBit placeKind (getD plan 1 0)) (any (extraBit stageKind) (stageWords plan)) .1 (
-          not-or (extraBit headKind (getD plan 0 0)) (extraBit placeKind (getD plan 1 0)) .1 (head-is .bits-named, place-is .bits-named),
-          any-no (extraBit stageKind) (stageWords plan) (λ w h. stage-is w h .bits-named),
-        ),
-        (
-          not-not (eqb (headCount (getD plan 0 0)) (length plan - 2)) (eq-eqb (head-count (length ms) (omega arith) ∙ (let e = words-length in omega arith))),
-          (
-            not-or (ltb 30 (placeX (getD plan 1 0))) (ltb 30 (placeY (getD plan 1 0))) .1 (not-ltb 30 (placeX (getD plan 1 0)) (let e = field-x in omega arith), not-ltb 30 (placeY (getD plan 1 0)) (let e = field-y in omega arith)),
-            (
-              subst (λ l. T (not (wrongMasks l))) (sym masks-back) (not-or (not (all stage ms)) (falling ms) .1 (not-not (all stage ms) t, s)),
-              (fit, tt),
-            ),
-          ),
-        ),
-      ),
-    ),
-  )
+  words-clear s fit =
+      let n = length plan in
+      let e = words-length in
+      let long = not-or (ltb n 2) (ltb 32 n) .1 (not-ltb n 2 (omega arith), not-ltb 32 n (omega arith)) in
+      let kinds = each wrongKind (head-is .kind-is) (place-is .kind-is) (λ w h. stage-is w h .kind-is) in
+      let bits = each extraBit (head-is .bits-named) (place-is .bits-named) (λ w h. stage-is w h .bits-named) in
+      let count = not-not (eqb (headCount (getD plan 0 0)) (n - 2)) (eq-eqb (head-count (length ms) (omega arith) ∙ omega arith)) in
+      let x = placeX (getD plan 1 0) in
+      let y = placeY (getD plan 1 0) in
+      let ex′ = field-x in
+      let ey′ = field-y in
+      let place = not-or (ltb 30 x) (ltb 30 y) .1 (not-ltb 30 x (omega arith), not-ltb 30 y (omega arith)) in
+      let masks = not-or (not (all stage ms)) (falling ms) .1 (not-not (all stage ms) t, s) in
+      (long, (kinds, (bits, (count, (place, (subst (λ l. T (not (wrongMasks l))) (sym masks-back) masks, (fit, tt)))))))
 
 -- ---- the plan of an accepted shape
 
@@ -152,9 +155,6 @@ module _ (ws : List ℕ) (S : Shaped ws) (d : Point) (ms : List ℕ) (P : PlanOf
   few =
       let f = sum-far ms (P .stages) in
       let s = sum-small (f .0) (f .1) in
-      let l = f .2 in
-      let u = s .0 in
-      let v = s .1 in
       omega arith
 
   -- the place fields, both at most 30
