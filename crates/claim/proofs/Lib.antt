@@ -1,3 +1,6 @@
-pub mod Demands
+pub mod Demand1
+pub mod Demand2
+pub mod Demand3
+pub mod Kept
 pub mod Claimed
 pub mod Measured

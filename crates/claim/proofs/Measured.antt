@@ -1,12 +1,12 @@
 -- The statement `Measured`, case by case: the plans and the absence of chains are those of masks, found by the computed search; the frames are computed.
-use mathlib.Core.Path.{_≡_, refl, _∙_, ap, subst}
+use mathlib.Core.Path.{_≡_, refl, sym, _∙_, ap, ap₂, subst}
 use mathlib.Core.Bool.{not}
 use mathlib.Core.List.{List, [], _∷_, _++_}
 use Prim.Native.Nat.{ℕ, _+_, _*_, _≤_}
 use native.Mathlib.Omega.{arith}
 use lib.Dec.{T, eqb}
 use lib.IntN.{pos, negsuc}
-use lib.ListN.{length, length-map, drop}
+use lib.ListN.{length, length-map, drop, replicate}
 use Rattle.cleaning.specs.declared.Operation.{Operation}
 use Rattle.cleaning.specs.declared.Operation.the-variants.{Erosion, Opening, Closing}
 use Rattle.plane.specs.Extent.{span}
@@ -27,8 +27,9 @@ use Rattle.shapes.specs.Shape.{shapeTests, shapePoints}
 use Rattle.shapes.proofs.Accepted.{accepted-shape}
 use Rattle.shapes.proofs.Written.{sum-small}
 use Rattle.planning.specs.Planning.{Shape, planningTests}
-use Rattle.planning.specs.Printer.{wordLines}
+use Rattle.planning.specs.Printer.{wordLines, PrintedFor, shown}
 use Rattle.planning.proofs.Decided.{can-plan, can-refuse, planned, unplanned}
+use Rattle.planning.proofs.Once.{reads-once}
 use Rattle.planning.proofs.Printed.{printed-plan}
 use Rattle.grids.specs.Frame.{badSize, badCell, gridSize, shortImage}
 use Rattle.grids.specs.Grid.{once}
@@ -38,8 +39,8 @@ use Rattle.cleaning.specs.Operation.{inTurn, lastGrid, Direct}
 use Rattle.cleaning.proofs.Kept.{can-clean}
 use Rattle.cleaning.proofs.Plans.{binary}
 use Rattle.cleaning.proofs.Turn.{turn-direct}
-use Rattle.claim.specs.Measured.{PlannedAs, RefusedTen, CleanedAs, Measured, fourWords, fourInput, threeWords, twoWords, rightWords, eightWords}
-use Rattle.claim.proofs.Demands.{runs, agrees}
+use Rattle.claim.specs.Measured.{PlannedAs, RefusedTen, CleanedAs, Measured, fourWords, fourInput, fourOutput, threeWords, twoWords, rightWords, eightWords}
+use Rattle.claim.proofs.Demand3.{runs, agrees}
 
 -- ---- planning
 
@@ -136,6 +137,14 @@ cornerWords = 0x100000ff ∷ 0x20000001 ∷ []
 abbrev corner : Point
 corner = (negsuc 14, negsuc 14)
 
+-- what the program prints for the row of four cells, with an output list of 32 zero words
+four-run : PrintedFor fourWords fourOutput
+unfolding shapePoints shapeTests _+ᵖ_ negᵖ wordLines
+four-run =
+    let p = can-plan fourWords (replicate 32 0) refl origin (3 ∷ 5 ∷ []) four in
+    let q = planned fourWords (replicate 32 0) refl (p .0) (p .1) (p .2) origin (3 ∷ 5 ∷ []) four in
+    record { out = replicate 32 0; room = refl; answer = p .0; out′ = p .1; plans = p .2; prints = sym (ap₂ shown (q .0) (q .1)) }
+
 -- ---- the statement
 
 pub measured : Measured
@@ -144,6 +153,10 @@ measured = record {
   four = plans-as fourWords origin (3 ∷ 5 ∷ []) refl four;
   four-printed = λ output P.
       printed-plan fourInput output fourWords (record { words = tt; lines = refl }) P (λ out h. accepts fourWords refl out (omega arith)) origin (3 ∷ 5 ∷ []) four;
+  four-prints = record {
+    unreadable = λ none. absurd (none fourWords (record { words = tt; lines = refl }));
+    readable = λ ws r. subst (λ w. PrintedFor w fourOutput) (reads-once fourInput fourWords ws (record { words = tt; lines = refl }) r) four-run;
+  };
   four-before = four-order;
   four-other = four-other;
   cell = plans-as cellWords origin [] refl (one origin (shapePoints cellWords) refl);

@@ -1,3 +1,6 @@
-pub mod Demand
+pub mod Demand1
+pub mod Demand2
+pub mod Demand3
+pub mod Kept
 pub mod Whole
 pub mod Measured

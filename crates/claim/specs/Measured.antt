@@ -86,6 +86,7 @@ pub record Measured : Type 0 where
   -- the row of four cells, and what the program prints for it
   pub four : PlannedAs fourWords fourPlan
   pub four-printed : (output : List ℕ) → Printed fourInput output → output ≡ fourOutput
+  pub four-prints : Printed fourInput fourOutput
   -- 3 then 5 comes before 3 then 7, which is a plan of it too
   pub four-before : (before (3 ∷ 5 ∷ []) (3 ∷ 7 ∷ []) ≡ true) × (before (3 ∷ 7 ∷ []) (3 ∷ 5 ∷ []) ≡ false)
   pub four-other : PlanOf permitted (Shape fourWords) origin (3 ∷ 7 ∷ [])

@@ -1,16 +1,19 @@
 -- Worked cases of the operations: the part and the image that holds it, the number of stages run, and what the single stages give in turn.
 use mathlib.Core.Path.{_≡_, refl}
-use mathlib.Core.List.{[], _∷_}
+use mathlib.Core.List.{List, [], _∷_, _++_}
+use Prim.Native.Nat.{ℕ}
+use native.Mathlib.Omega.{arith}
 use lib.IntN.{pos}
-use lib.ListN.{replicate}
+use lib.ListN.{length, drop, replicate}
 use Rattle.cleaning.specs.declared.Operation.the-variants.{Dilation, Erosion, Opening, Closing}
 use Rattle.plane.specs.Point.{_+ᵖ_, negᵖ}
-use Rattle.words.specs.Ground.{firstOf}
+use Rattle.words.specs.Ground.{firstOf, stated, result, refusal}
+use Rattle.words.specs.declared.Answer.{Answer}
 use Rattle.masks.specs.Mask.{maskCells}
 use Rattle.shapes.specs.Plan.{planTests}
 use Rattle.grids.specs.Grid.{once}
 use Rattle.grids.specs.Image.{cells, valueAt}
-use Rattle.cleaning.specs.Cleaning.{part, stagesRun, operationTests, workTests}
+use Rattle.cleaning.specs.Cleaning.{part, stagesRun, operationTests, workTests, Cleaned}
 use Rattle.cleaning.specs.Operation.{inTurn, lastGrid}
 
 -- ---- the part: the second image if the number is even, the first if odd
@@ -87,3 +90,21 @@ eroded-left = refl
 opened-still : inTurn Opening 3 1 (0 ∷ 1 ∷ 0 ∷ []) (pos 1, pos 0) [] ≡ 0 ∷ 1 ∷ 0 ∷ []
 unfolding inTurn lastGrid once cells valueAt _+ᵖ_ negᵖ
 opened-still = refl
+
+-- ---- the grounds of a frame and two images in order
+
+work-order : (firstOf (workTests 0 1 (2 ∷ []) [] []) ≡ 11) × (firstOf (workTests 2 1 (2 ∷ []) [] []) ≡ 12) × (firstOf (workTests 1 1 (2 ∷ []) [] []) ≡ 13)
+unfolding workTests
+work-order = (refl, refl, refl)
+
+-- ---- what an operation leaves: the part, and every byte past the grids
+
+runs : (r : Answer) (i′ j′ : List ℕ) → Cleaned Dilation (0x30000000 ∷ 0x40000f0f ∷ []) 1 1 (1 ∷ []) (replicate 256 7 ++ 5 ∷ []) (replicate 256 8 ++ 6 ∷ []) r i′ j′
+    → (stated r ≡ result 0) × (part 0 1 1 i′ j′ ≡ 1 ∷ []) × (length i′ ≡ 257) × (drop 256 i′ ≡ 5 ∷ []) × (length j′ ≡ 257) × (drop 256 j′ ≡ 6 ∷ [])
+unfolding planTests workTests inTurn lastGrid cells valueAt _+ᵖ_ negᵖ
+runs r i′ j′ p = let q = p .done refl in (q .answer, q .handed, q .first-size, q .first-past, q .second-size, q .second-past)
+
+-- and a refusal leaves both images
+runs-not : (r : Answer) (i′ j′ : List ℕ) → Cleaned Closing (0x30000000 ∷ 0x40000f0f ∷ []) 1 1 (2 ∷ []) (5 ∷ []) (6 ∷ []) r i′ j′ → (stated r ≡ refusal 13) × ((i′ ≡ 5 ∷ []) × (j′ ≡ 6 ∷ []))
+unfolding planTests workTests _+ᵖ_
+runs-not r i′ j′ p = p .refused (λ e. let n : _≡_ {A = ℕ} 13 0 = e in omega arith)

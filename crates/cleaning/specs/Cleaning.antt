@@ -8,7 +8,7 @@ use lib.ListN.{length, take, drop}
 use Rattle.words.specs.Ground.{Test, stated, result, Answered}
 use Rattle.words.specs.declared.Answer.{Answer}
 use Rattle.shapes.specs.Plan.{planTests, planMasks, planOffset}
-use Rattle.grids.specs.Frame.{badSize, wrongLength, badCell, shortImage, gridSize}
+use Rattle.grids.specs.Frame.{badSize, shortImage, gridSize, frameTests}
 use Rattle.cleaning.specs.Operation.{inTurn}
 use Rattle.cleaning.specs.declared.Operation.{Operation}
 use Rattle.cleaning.specs.declared.Operation.the-variants.{Dilation, Erosion, Opening, Closing}
@@ -34,7 +34,8 @@ part n W H first second = cond (badSize W H || ltb (length (resultImage n first 
 
 -- a frame and two work images: grounds 11 to 14
 unfoldable pub workTests : ℕ → ℕ → List ℕ → List ℕ → List ℕ → List Test
-workTests W H f i j = (11, badSize W H) ∷ (12, wrongLength W H f) ∷ (13, badCell f) ∷ (14, shortImage W H i || shortImage W H j) ∷ []
+unfolding frameTests
+workTests W H f i j = frameTests W H f ++ (14, shortImage W H i || shortImage W H j) ∷ []
 
 -- grounds 1 to 3, 5 to 8 and 11 to 14
 abbrev pub operationTests : List ℕ → ℕ → ℕ → List ℕ → List ℕ → List ℕ → List Test

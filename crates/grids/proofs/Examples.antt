@@ -1,14 +1,16 @@
 -- Worked cases of frames and grids: where the bounds lie, which ground comes first, and what the load, putting and the single stage give.
-use mathlib.Core.Path.{_≡_, refl}
+use mathlib.Core.Path.{_≡_, refl, ap}
 use mathlib.Core.Bool.{true, false}
 use mathlib.Core.List.{List, [], _∷_, _++_}
 use Prim.Native.Nat.{ℕ}
+use native.Mathlib.Omega.{arith}
 use lib.ListN.{take, drop, replicate}
 use Rattle.plane.specs.Point.{_+ᵖ_, negᵖ}
-use Rattle.words.specs.Ground.{firstOf}
+use Rattle.words.specs.Ground.{firstOf, stated, result, refusal}
+use Rattle.words.specs.declared.Answer.{Answer}
 use Rattle.masks.specs.Mask.{maskCells, stage}
-use Rattle.grids.specs.Frame.{frameTests, load, free, full}
-use Rattle.grids.specs.Grid.{putTests, stageTests, put, once}
+use Rattle.grids.specs.Frame.{frameTests, load, free, full, LoadCounted}
+use Rattle.grids.specs.Grid.{putTests, stageTests, put, once, FramePut, Staged}
 use Rattle.grids.specs.Image.{cells, valueAt}
 
 -- ---- grounds
@@ -123,3 +125,61 @@ outside-read = refl
 outside-free : take 1 (drop 15 (once true free 1 1 3 (replicate 256 1))) ≡ 0 ∷ []
 unfolding once cells valueAt maskCells _+ᵖ_ negᵖ
 outside-free = refl
+
+-- ---- rows count as columns do, and grounds come in order in each call
+
+side-high : (firstOf (frameTests 1 241 []) ≡ 11) × (firstOf (frameTests 1 0 []) ≡ 11)
+unfolding frameTests
+side-high = (refl, refl)
+
+-- one column and two rows: 16 × 17 bytes
+image-oblong : (firstOf (putTests 1 2 (1 ∷ 0 ∷ []) (replicate 272 7)) ≡ 0) × (firstOf (putTests 1 2 (1 ∷ 0 ∷ []) (replicate 271 7)) ≡ 14)
+unfolding putTests
+image-oblong = (refl, refl)
+
+length-long : firstOf (frameTests 1 1 (0 ∷ 0 ∷ [])) ≡ 12
+unfolding frameTests
+length-long = refl
+
+cell-255 : firstOf (frameTests 1 1 (255 ∷ [])) ≡ 13
+unfolding frameTests
+cell-255 = refl
+
+put-order : (firstOf (putTests 0 1 (2 ∷ []) []) ≡ 11) × (firstOf (putTests 2 1 (2 ∷ []) []) ≡ 12)
+unfolding putTests
+put-order = (refl, refl)
+
+stage-kind-first : firstOf (stageTests 0x40000200 0 1 (2 ∷ []) []) ≡ 2
+unfolding stageTests
+stage-kind-first = refl
+
+-- ---- what each call answers and leaves
+
+counts : (r : Answer) → LoadCounted 3 1 (1 ∷ 0 ∷ 1 ∷ []) r → stated r ≡ result 2
+unfolding frameTests load
+counts r p = p .done refl
+
+counts-not : (r : Answer) → LoadCounted 2 1 (1 ∷ 3 ∷ []) r → stated r ≡ refusal 13
+unfolding frameTests
+counts-not r p = p .refused (λ e. let n : _≡_ {A = ℕ} 13 0 = e in omega arith) .0
+
+puts : (r : Answer) (i′ : List ℕ) → FramePut 1 2 (0 ∷ 1 ∷ []) (replicate 273 7) r i′ → (stated r ≡ result 0) × (i′ ≡ replicate 16 0 ++ 1 ∷ replicate 255 0 ++ 7 ∷ [])
+unfolding putTests put cells valueAt
+puts r i′ p = (p .done refl .answer, p .done refl .image)
+
+puts-not : (r : Answer) (i′ : List ℕ) → FramePut 1 1 (2 ∷ []) (replicate 256 7) r i′ → (stated r ≡ refusal 13) × (i′ ≡ replicate 256 7)
+unfolding putTests
+puts-not r i′ p = p .refused (λ e. let n : _≡_ {A = ℕ} 13 0 = e in omega arith)
+
+stages-dilation : (r : Answer) (i′ : List ℕ) → Staged false 0x50000003 1 1 (1 ∷ replicate 255 0) (replicate 257 7) r i′ → (stated r ≡ result 0) × (i′ ≡ 1 ∷ 1 ∷ replicate 254 0 ++ 7 ∷ [])
+unfolding stageTests stage once cells valueAt maskCells _+ᵖ_ negᵖ
+stages-dilation r i′ p = (p .done refl .answer, p .done refl .image)
+
+-- outside the grid cells are free: the last column of a full grid goes
+stages-erosion : (r : Answer) (i′ : List ℕ) → Staged true 0x50000003 1 1 (replicate 256 1) (replicate 256 7) r i′ → take 17 i′ ≡ replicate 15 1 ++ 0 ∷ 1 ∷ []
+unfolding stageTests stage once cells valueAt maskCells _+ᵖ_ negᵖ
+stages-erosion r i′ p = ap (take 17) (p .done refl .image)
+
+stages-not : (r : Answer) (i′ : List ℕ) → Staged true 0x50000003 1 1 (2 ∷ []) (replicate 256 7) r i′ → (stated r ≡ refusal 13) × (i′ ≡ replicate 256 7)
+unfolding stageTests stage
+stages-not r i′ p = p .refused (λ e. let n : _≡_ {A = ℕ} 13 0 = e in omega arith)

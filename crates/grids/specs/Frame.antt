@@ -18,6 +18,10 @@ free = 0
 abbrev pub full : ℕ
 full = 1
 
+-- the highest byte that a cell may be
+abbrev pub highest : ℕ
+highest = 1
+
 -- the greater and the lesser of two values
 abbrev pub greater : ℕ → ℕ → ℕ
 greater = max
@@ -48,7 +52,7 @@ wrongLength W H f = not (eqb (length f) (W * H))
 
 -- ground 13: a cell is above 1
 abbrev pub badCell : List ℕ → Bool
-badCell f = any (ltb full) f
+badCell f = any (ltb highest) f
 
 -- ground 14: a work image is shorter than (W + 15) × (H + 15)
 abbrev pub gridSize : ℕ → ℕ → ℕ

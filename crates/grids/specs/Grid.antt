@@ -10,13 +10,13 @@ use Rattle.words.specs.Word.{wrongKind, extraBit, stageKind, stageMask}
 use Rattle.words.specs.declared.Answer.{Answer}
 use Rattle.masks.specs.Mask.{maskPoints, stage}
 use Rattle.grids.specs.Image.{view, cells, dilated, eroded}
-use Rattle.grids.specs.Frame.{free, full, greater, lesser, frame, badSize, wrongLength, badCell, shortImage, gridSize}
+use Rattle.grids.specs.Frame.{free, full, greater, lesser, frame, badSize, badCell, shortImage, gridSize, frameTests}
 
 -- a grid is the first (W + 15) × (H + 15) bytes of a work image, row by row, x and y from 0; v is the value of plane cells outside it
 abbrev pub grid : ℕ → ℕ → ℕ → List ℕ → Point → ℕ
 grid v W H g = view v (W + 15) (H + 15) g
 
--- a picture cut to the grid
+-- a picture put into a grid: cut to it
 abbrev pub laid : ℕ → ℕ → (Point → ℕ) → List ℕ
 laid W H f = cells (W + 15) (H + 15) f
 
@@ -37,7 +37,8 @@ written W H g i = g ++ drop (gridSize W H) i
 
 -- putting a frame into a grid: grounds 11 to 14
 unfoldable pub putTests : ℕ → ℕ → List ℕ → List ℕ → List Test
-putTests W H f i = (11, badSize W H) ∷ (12, wrongLength W H f) ∷ (13, badCell f) ∷ (14, shortImage W H i) ∷ []
+unfolding frameTests
+putTests W H f i = frameTests W H f ++ (14, shortImage W H i) ∷ []
 
 -- a single stage, of a stage word and two images: grounds 2, 3, 7, 11, 13 over the grid read as far as its image goes, and 14 over both images
 unfoldable pub stageTests : ℕ → ℕ → ℕ → List ℕ → List ℕ → List Test

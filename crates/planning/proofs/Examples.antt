@@ -1,11 +1,14 @@
 -- Worked cases of planning's grounds and of the printed lines.
-use mathlib.Core.Path.{_≡_, refl}
-use mathlib.Core.List.{[], _∷_}
-use lib.ListN.{replicate}
-use Rattle.words.specs.Ground.{firstOf}
+use mathlib.Core.Path.{_≡_, refl, _∙_, ap}
+use mathlib.Core.List.{List, [], _∷_}
+use Prim.Native.Nat.{ℕ, _+_}
+use native.Mathlib.Omega.{arith}
+use lib.ListN.{length, length-append, replicate}
+use Rattle.words.specs.Ground.{firstOf, stated, refusal}
+use Rattle.words.specs.declared.Answer.{Answer}
 use Rattle.shapes.specs.Shape.{shapeTests}
-use Rattle.planning.specs.Planning.{planningTests}
-use Rattle.planning.specs.Printer.{wordLine, wordLines, shown}
+use Rattle.planning.specs.Planning.{planningTests, Planned}
+use Rattle.planning.specs.Printer.{wordLine, wordLines, shown, Reads, Printed}
 
 -- an output list of 32 words is enough for a plan, and a wrong shape list comes before one that is not
 room-32 : firstOf (planningTests (0x10000000 ∷ 0x20000001 ∷ []) (replicate 32 0)) ≡ 0
@@ -35,3 +38,32 @@ refused-10 = refl
 -- a plan of two words is shown alone, however long the output list is
 plan-only : shown (0, 2) (0x30000000 ∷ 0x40000f0f ∷ 7 ∷ []) ≡ wordLines (0x30000000 ∷ 0x40000f0f ∷ [])
 plan-only = refl
+
+-- each digit at its place
+digits-all : (wordLine 0x12345678 ≡ 49 ∷ 50 ∷ 51 ∷ 52 ∷ 53 ∷ 54 ∷ 55 ∷ 56 ∷ 10 ∷ []) × (wordLine 0xfedcba90 ≡ 102 ∷ 101 ∷ 100 ∷ 99 ∷ 98 ∷ 97 ∷ 57 ∷ 48 ∷ 10 ∷ [])
+unfolding wordLine
+digits-all = (refl, refl)
+
+-- the highest word is read, and nothing above it
+reads-highest : Reads (wordLines (0xffffffff ∷ [])) (0xffffffff ∷ [])
+reads-highest = record { words = tt; lines = refl }
+
+reads-no-more : ¬ Reads (wordLines (0 ∷ [])) (0x100000000 ∷ [])
+reads-no-more r = r .words
+
+-- a line that is otherwise: only "unreadable"
+spoilt : (output : List ℕ) → Printed (10 ∷ []) output → output ≡ 117 ∷ 110 ∷ 114 ∷ 101 ∷ 97 ∷ 100 ∷ 97 ∷ 98 ∷ 108 ∷ 101 ∷ 10 ∷ []
+unfolding wordLines wordLine
+spoilt output p = p .unreadable (λ ws r. no ws (r .lines))
+  where
+    no : (ws : List ℕ) → (10 ∷ []) ≡ wordLines ws → ⊥
+    no [] e = let z : _≡_ {A = ℕ} 1 0 = ap length e in omega arith
+    no (w ∷ ws) e =
+        let z : _≡_ {A = ℕ} 1 (length (wordLine w) + length (wordLines ws)) = ap length e ∙ length-append (wordLine w) (wordLines ws) in
+        let k : length (wordLine w) ≡ 9 = refl in
+        omega arith
+
+-- a refusal leaves the output list
+plans-not : (r : Answer) (out′ : List ℕ) → Planned (0x10000000 ∷ 0x20000000 ∷ []) (replicate 32 7) r out′ → (stated r ≡ refusal 4) × (out′ ≡ replicate 32 7)
+unfolding shapeTests
+plans-not r out′ p = p .refused (λ e. let n : _≡_ {A = ℕ} 4 0 = e in omega arith)

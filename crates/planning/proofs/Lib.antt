@@ -1,3 +1,4 @@
 pub mod Decided
 pub mod Printed
+pub mod Once
 pub mod Examples

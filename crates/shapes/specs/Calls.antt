@@ -1,5 +1,5 @@
 -- Document 01: what the calls promise that write a shape list: moving, joining and summing shapes, and turning a plan back into a shape.
--- Moving, joining and summing meet grounds 1 to 4, 8 and 9; turning back meets 1 to 3 and 5 to 9.
+-- Moving, joining and summing meet grounds 1 to 4, 8 and 9; turning back meets 1 to 3 and 5 to 9. The lists ws and vs are lent for reading alone.
 use mathlib.Core.Path.{_≡_}
 use mathlib.Core.Bool.{Bool}
 use mathlib.Core.List.{List, [], _∷_, _++_, map}
@@ -31,7 +31,7 @@ pub record ListWritten (A : List Point) (out : List ℕ) (r : Answer) (out′ : 
 abbrev pub ListAnswered : List Test → List Point → List ℕ → Answer → List ℕ → Type 0
 ListAnswered tests A out r out′ = Answered tests r (out′ ≡ out) (ListWritten A out r out′)
 
--- ---- moving: d is added to x and y of each point
+-- ---- moving: the numbers of d, in the call two signed 32-bit numbers, are added to x and y of each point
 
 abbrev pub movedPoints : List ℕ → Point → List Point
 movedPoints ws d = map (λ p. p +ᵖ d) (shapePoints ws)

@@ -11,7 +11,7 @@ use Rattle.words.specs.Ground.{Test}
 use Rattle.words.specs.Word.{wrongKind, extraBit, headKind, placeKind, stageKind, headCount, placeX, placeY, stageMask, headWord, placeWord, stageWord}
 use Rattle.masks.specs.Mask.{stage}
 use Rattle.masks.specs.Chain.{sumOf, falling}
-use Rattle.shapes.specs.Shape.{badLength, outOfRange}
+use Rattle.shapes.specs.Shape.{notWithin, outOfRange}
 
 -- a plan list is head, place, then the stages
 abbrev pub stageWords : List ℕ → List ℕ
@@ -35,16 +35,16 @@ planPoints ws = map (λ p. planOffset ws +ᵖ p) (sumOf (planMasks ws))
 -- ---- grounds
 
 -- ground 1: a list is too short or too long
-abbrev pub planLength : List ℕ → Bool
-planLength ws = badLength 2 32 ws
+abbrev pub wrongPlanLength : List ℕ → Bool
+wrongPlanLength ws = notWithin 2 32 ws
 
 -- ground 2: a word's kind isn't the one its place calls for
-abbrev pub planKinds : List ℕ → Bool
-planKinds ws = wrongKind headKind (getD ws 0 0) || wrongKind placeKind (getD ws 1 0) || any (wrongKind stageKind) (stageWords ws)
+abbrev pub wrongPlanKinds : List ℕ → Bool
+wrongPlanKinds ws = wrongKind headKind (getD ws 0 0) || wrongKind placeKind (getD ws 1 0) || any (wrongKind stageKind) (stageWords ws)
 
 -- ground 3: a bit that its kind doesn't name is set
-abbrev pub planBits : List ℕ → Bool
-planBits ws = extraBit headKind (getD ws 0 0) || extraBit placeKind (getD ws 1 0) || any (extraBit stageKind) (stageWords ws)
+abbrev pub wrongPlanBits : List ℕ → Bool
+wrongPlanBits ws = extraBit headKind (getD ws 0 0) || extraBit placeKind (getD ws 1 0) || any (extraBit stageKind) (stageWords ws)
 
 -- ground 5: the head's count isn't the number of words less 2
 abbrev pub wrongCount : List ℕ → Bool
@@ -62,9 +62,9 @@ wrongMasks ms = not (all stage ms) || falling ms
 unfoldable pub planTests : List ℕ → List Test
 unfolding stage planPoints outOfRange
 planTests ws =
-    (1, planLength ws)
-    ∷ (2, planKinds ws)
-    ∷ (3, planBits ws)
+    (1, wrongPlanLength ws)
+    ∷ (2, wrongPlanKinds ws)
+    ∷ (3, wrongPlanBits ws)
     ∷ (5, wrongCount ws)
     ∷ (6, wrongPlace ws)
     ∷ (7, wrongMasks (planMasks ws))

@@ -33,19 +33,19 @@ shapePoints ws = map (λ c. point c -ᵖ point (anchor ws)) (shapeCells ws)
 -- ---- grounds
 
 -- ground 1: a list is too short or too long
-abbrev pub badLength : ℕ → ℕ → List ℕ → Bool
-badLength low high ws = ltb (length ws) low || ltb high (length ws)
+abbrev pub notWithin : ℕ → ℕ → List ℕ → Bool
+notWithin low high ws = ltb (length ws) low || ltb high (length ws)
 
-abbrev pub shapeLength : List ℕ → Bool
-shapeLength ws = badLength 2 17 ws
+abbrev pub wrongShapeLength : List ℕ → Bool
+wrongShapeLength ws = notWithin 2 17 ws
 
 -- ground 2: a word's kind isn't the one its place calls for
-abbrev pub shapeKinds : List ℕ → Bool
-shapeKinds ws = wrongKind anchorKind (getD ws 0 0) || any (wrongKind rowKind) (rows ws)
+abbrev pub wrongShapeKinds : List ℕ → Bool
+wrongShapeKinds ws = wrongKind anchorKind (getD ws 0 0) || any (wrongKind rowKind) (rows ws)
 
 -- ground 3: a bit that its kind doesn't name is set
-abbrev pub shapeBits : List ℕ → Bool
-shapeBits ws = extraBit anchorKind (getD ws 0 0) || any (extraBit rowKind) (rows ws)
+abbrev pub wrongShapeBits : List ℕ → Bool
+wrongShapeBits ws = extraBit anchorKind (getD ws 0 0) || any (extraBit rowKind) (rows ws)
 
 -- ground 4: a row has no column, or its y isn't above the row before
 abbrev pub emptyRow : ℕ → Bool
@@ -54,12 +54,12 @@ emptyRow w = eqb (length (rowColumns w)) 0
 abbrev pub notRising : ℕ → ℕ → Bool
 notRising v w = leb (rowY w) (rowY v)
 
-abbrev pub shapeRows : List ℕ → Bool
-shapeRows ws = any emptyRow (rows ws) || anyNext notRising (rows ws)
+abbrev pub wrongShapeRows : List ℕ → Bool
+wrongShapeRows ws = any emptyRow (rows ws) || anyNext notRising (rows ws)
 
 -- grounds 1 to 4, each tried over the whole list before the next
 unfoldable pub shapeTests : List ℕ → List Test
-shapeTests ws = (1, shapeLength ws) ∷ (2, shapeKinds ws) ∷ (3, shapeBits ws) ∷ (4, shapeRows ws) ∷ []
+shapeTests ws = (1, wrongShapeLength ws) ∷ (2, wrongShapeKinds ws) ∷ (3, wrongShapeBits ws) ∷ (4, wrongShapeRows ws) ∷ []
 
 -- ground 8: points have w or h above 15, or an x or y below −15 or above 15
 abbrev pub tooFar : ℤ → Bool

@@ -3,7 +3,7 @@ use mathlib.Core.Path.{_≡_, refl}
 use mathlib.Core.Bool.{true, false}
 use mathlib.Core.List.{[], _∷_}
 use Rattle.words.specs.Ground.{firstOf, both}
-use Rattle.words.specs.Word.{kind, anchorKind, rowKind, headKind, placeKind, stageKind, anchorX, anchorY, anchorWord, rowY, rowColumns, rowWord, headCount, headWord, placeX, placeY, placeWord, stageMask, stageWord, extraBit}
+use Rattle.words.specs.Word.{kind, anchorKind, rowKind, headKind, placeKind, stageKind, anchorX, anchorY, anchorWord, rowY, rowColumns, rowWord, headCount, headWord, placeX, placeY, placeWord, stageMask, stageWord, extraBit, wrongKind}
 
 -- ---- words
 
@@ -53,3 +53,11 @@ none = refl
 -- the second list's 2 comes before the first list's 3
 two-lists : firstOf (both ((2, false) ∷ (3, true) ∷ []) ((2, true) ∷ (3, false) ∷ [])) ≡ 2
 two-lists = refl
+
+-- bit 27, the one under the kind, counts too
+named-27 : (extraBit anchorKind 0x18000000 ≡ true) × (extraBit stageKind 0x58000003 ≡ true)
+named-27 = (refl, refl)
+
+-- a kind above and a kind below the one called for are both wrong
+kind-not : (wrongKind rowKind 0x20000001 ≡ false) × (wrongKind rowKind 0x30000001 ≡ true) × (wrongKind rowKind 0x10000001 ≡ true)
+kind-not = (refl, refl, refl)

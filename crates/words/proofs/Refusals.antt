@@ -55,7 +55,7 @@ clear-last (t ∷ ts) us c = clear-last ts us (c .1)
 -- ---- answers
 
 -- a number's ground
-groundOf : ℕ → Ground
+unfoldable pub groundOf : ℕ → Ground
 groundOf n =
     cond (eqb n 1) ListLength (cond (eqb n 2) WordKind (cond (eqb n 3) ExtraBit (cond (eqb n 4) RowOrder (cond (eqb n 5) StageCount
     (cond (eqb n 6) PlaceField (cond (eqb n 7) StageMask (cond (eqb n 8) OutOfRange (cond (eqb n 9) OutputLength (cond (eqb n 10) NoChain

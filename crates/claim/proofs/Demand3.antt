@@ -1,4 +1,4 @@
--- Demands 2 and 3, from what planning and the operations promise: the words of an accepted shape's plan pass every ground of a plan list, so on an accepted
+-- Demand 3, from what planning and the operations promise: the words of an accepted shape's plan pass every ground of a plan list, so on an accepted
 -- frame the operation runs them, and what the stages give in turn is what their sum, the shape, gives directly.
 use mathlib.Core.Path.{_≡_, sym, _∙_, ap, ap₂, subst}
 use mathlib.Core.Logic.{_⊎_, inl, inr}
@@ -20,20 +20,10 @@ use Rattle.shapes.proofs.Written.{plan-clear, masks-are, offset-is, plan-stands
 use Rattle.planning.specs.Planning.{Shape, PlanWritten, Unplannable}
 use Rattle.planning.proofs.Decided.{chain-of, accepted, written-words}
 use Rattle.cleaning.specs.Cleaning.{part, workTests, operationTests, stagesRun, Cleaned}
-use Rattle.cleaning.specs.Operation.{Direct, inTurn}
-use Rattle.cleaning.proofs.Plans.{accepted-direct}
+use Rattle.cleaning.specs.Operation.{inTurn}
 use Rattle.cleaning.proofs.Turn.{same-direct}
-use Rattle.claim.specs.Demand.{Demand2, Demand3, Agrees, Served, Decided}
-
--- ---- demand 2
-
-pub demand2 : Demand2
-demand2 op plan W H f i j s i′ j′ c e =
-    let ran = c .done e in
-    let turns = ap (λ a. part (a .1) W H i′ j′) (ran .answer) ∙ ran .handed in
-    subst (Direct op W H f (In (planPoints plan))) (sym turns) (accepted-direct op plan W H f i j e)
-
--- ---- demand 3
+use Rattle.claim.specs.Demand3.{Demand3, Agrees, Served, Decided}
+use Rattle.claim.proofs.Demand2.{part-direct}
 
 -- the grounds of an accepted frame and its images
 work-clear : (W H : ℕ) (f i j : List ℕ) → firstOf (workTests W H f i j) ≡ 0 → Clear (workTests W H f i j)
@@ -55,7 +45,7 @@ module _ (ws : List ℕ) (S : Shaped ws) (d : Point) (ms : List ℕ) (P : PlanOf
       let ran = c .done run in
       let plan = planWords d ms in
       let masks = masks-are ws S d ms P in
-      let given = demand2 op plan W H f i j s i′ j′ c run in
+      let given = part-direct op plan W H f i j s i′ j′ c run in
       record {
         answer = ran .answer ∙ ap (λ l. result (stagesRun op (length l))) masks;
         turns = ap (λ a. part (a .1) W H i′ j′) (ran .answer) ∙ ran .handed ∙ ap₂ (λ p l. inTurn op W H f p l) (offset-is ws S d ms P) masks;

@@ -1,5 +1,5 @@
--- The owner's demands 2 and 3 on planning and cleaning, as types: what follows from the promises of the calls. Demand 1 is the record `Answered` of words,
--- of which every promise is made: a result or the first ground that holds, and a refusal changes nothing lent.
+-- The owner's demand 3: "no chain" exactly when there is none, else the plan that document 01 picks, and on every accepted frame the four operations run
+-- it and agree with the declared shape.
 use mathlib.Core.Path.{_≡_}
 use mathlib.Core.Logic.{_⊎_, _↔_}
 use mathlib.Core.List.{List, _++_}
@@ -10,20 +10,11 @@ use Rattle.plane.specs.Point.{Point, _≐_, moved}
 use Rattle.words.specs.Ground.{firstOf, stated, result, refusal}
 use Rattle.words.specs.declared.Answer.{Answer}
 use Rattle.masks.specs.Chain.{Chain, Picked, sumOf}
-use Rattle.shapes.specs.Plan.{planPoints, planWords}
+use Rattle.shapes.specs.Plan.{planWords}
 use Rattle.planning.specs.Planning.{Shape, member, permitted, planningTests, Planned}
 use Rattle.cleaning.specs.Operation.{Direct, inTurn}
-use Rattle.cleaning.specs.Cleaning.{workTests, operationTests, stagesRun, part, Cleaned}
+use Rattle.cleaning.specs.Cleaning.{workTests, stagesRun, part, Cleaned}
 use Rattle.cleaning.specs.declared.Operation.{Operation}
-
--- demand 2: on every accepted plan list and frame, whoever wrote the plan, what is handed back for the number that the operation answered is what
--- Minkowski's definitions make of the frame and the plan's points, cut to the frame
-abbrev pub Demand2 : Type 0
-Demand2 =
-    (op : Operation) (plan : List ℕ) (W H : ℕ) (f i j : List ℕ) (s : Answer) (i′ j′ : List ℕ)
-    → Cleaned op plan W H f i j s i′ j′
-    → firstOf (operationTests plan W H f i j) ≡ 0
-    → Direct op W H f (In (planPoints plan)) (part (stated s .1) W H i′ j′)
 
 -- an operation that was given the plan of the stages ms with the offset d: it doesn't refuse, it answers the number of stages run, and the part handed
 -- back for that number is, cell for cell, both what the single stages give in turn and what the shape list ws gives directly

@@ -1,0 +1,73 @@
+-- Demand 2, from what each call promises: a list that is written stands for its points, and what the stages of an accepted plan give in turn is what its
+-- points give directly.
+use mathlib.Core.Path.{_≡_, sym, _∙_, ap, ap₂, subst}
+use mathlib.Core.Bool.{not}
+use mathlib.Core.List.{List, [], _∷_}
+use Prim.Native.Nat.{ℕ}
+use lib.Dec.{T}
+use lib.ListN.{length, take, drop}
+use lib.Seq.{take-append-seam}
+use Rattle.words.specs.declared.Answer.{Answer}
+use Rattle.cleaning.specs.declared.Operation.{Operation}
+use Rattle.plane.specs.Lists.{In}
+use Rattle.plane.specs.Point.{Point, _+ᵖ_, _-ᵖ_, _≐_, moved}
+use Rattle.plane.proofs.Algebra.{≐-trans, +ᵖ-cancel, subᵖ-cancel}
+use Rattle.plane.proofs.Member.{In-map, In-append}
+use Rattle.words.specs.Ground.{firstOf, stated, both}
+use Rattle.words.proofs.Refusals.{clear, clear-first, clear-last}
+use Rattle.masks.proofs.Sum.{sums-is}
+use Rattle.shapes.specs.Calls.{ListWritten, newTests, shortOutput, movedPoints, movingTests, joinedPoints, joiningTests, summedPoints, summingTests, turningTests}
+use Rattle.shapes.specs.Listed.{listed}
+use Rattle.shapes.specs.Plan.{planTests, planPoints}
+use Rattle.shapes.specs.Shape.{shapeTests, shapePoints, outOfRange}
+use Rattle.shapes.proofs.Listed.{listed-points}
+use Rattle.shapes.proofs.Written.{plan-points}
+use Rattle.planning.specs.Planning.{Shape}
+use Rattle.cleaning.specs.Cleaning.{Cleaned, operationTests, part}
+use Rattle.cleaning.specs.Operation.{Direct}
+use Rattle.cleaning.proofs.Plans.{accepted-direct}
+use Rattle.claim.specs.Demand2.{Demand2}
+
+stands : (A : List Point) (out out′ : List ℕ) (r : Answer) → T (not (outOfRange A)) → ListWritten A out r out′ → Shape (take (stated r .1) out′) ≐ In A
+stands A out out′ r fit w =
+    let head : take (stated r .1) out′ ≡ listed A = ap₂ (λ s o. take (s .1) o) (w .answer) (w .words) ∙ take-append-seam (listed A) (drop (length (listed A)) out) in
+    subst (λ l. In (shapePoints l) ≐ In A) (sym head) (listed-points A fit)
+
+moved-is : (ws : List ℕ) (d : Point) → In (movedPoints ws d) ≐ moved d (Shape ws)
+moved-is ws d p = (
+  λ h. let r = In-map (λ q. q +ᵖ d) (shapePoints ws) p .0 h in subst (In (shapePoints ws)) (sym (ap (λ q. q -ᵖ d) (r .2) ∙ +ᵖ-cancel (r .0) d)) (r .1),
+  λ h. In-map (λ q. q +ᵖ d) (shapePoints ws) p .1 (p -ᵖ d, h, sym (subᵖ-cancel p d)),
+)
+
+moved-fits : (ws : List ℕ) (d : Point) (out : List ℕ) → firstOf (movingTests ws d out) ≡ 0 → T (not (outOfRange (movedPoints ws d)))
+unfolding shapeTests
+moved-fits ws d out e = clear-last (shapeTests ws) (newTests (movedPoints ws d) out) (clear (movingTests ws d out) tt e) .0
+
+joined-fits : (ws vs out : List ℕ) → firstOf (joiningTests ws vs out) ≡ 0 → T (not (outOfRange (joinedPoints ws vs)))
+unfolding shapeTests
+joined-fits ws vs out e = clear-last (both (shapeTests ws) (shapeTests vs)) (newTests (joinedPoints ws vs) out) (clear (joiningTests ws vs out) tt e) .0
+
+summed-fits : (ws vs out : List ℕ) → firstOf (summingTests ws vs out) ≡ 0 → T (not (outOfRange (summedPoints ws vs)))
+unfolding shapeTests
+summed-fits ws vs out e = clear-last (both (shapeTests ws) (shapeTests vs)) (newTests (summedPoints ws vs) out) (clear (summingTests ws vs out) tt e) .0
+
+turned-fits : (ws out : List ℕ) → firstOf (turningTests ws out) ≡ 0 → T (not (outOfRange (planPoints ws)))
+unfolding planTests
+turned-fits ws out e = clear-first (planTests ws) ((9, shortOutput 17 out) ∷ []) (clear (turningTests ws out) tt e) .1 .1 .1 .1 .1 .1 .0
+
+-- the part that is handed back
+pub part-direct : (op : Operation) (plan : List ℕ) (W H : ℕ) (f i j : List ℕ) (s : Answer) (i′ j′ : List ℕ) → Cleaned op plan W H f i j s i′ j′
+    → firstOf (operationTests plan W H f i j) ≡ 0 → Direct op W H f (In (planPoints plan)) (part (stated s .1) W H i′ j′)
+part-direct op plan W H f i j s i′ j′ c e =
+    let ran = c .done e in
+    let turns = ap (λ a. part (a .1) W H i′ j′) (ran .answer) ∙ ran .handed in
+    subst (Direct op W H f (In (planPoints plan))) (sym turns) (accepted-direct op plan W H f i j e)
+
+pub demand2 : Demand2
+demand2 = record {
+  moving = λ ws d out r out′ a e. ≐-trans (stands (movedPoints ws d) out out′ r (moved-fits ws d out e) (a .done e)) (moved-is ws d);
+  joining = λ ws vs out r out′ a e. ≐-trans (stands (joinedPoints ws vs) out out′ r (joined-fits ws vs out e) (a .done e)) (In-append (shapePoints ws) (shapePoints vs));
+  summing = λ ws vs out r out′ a e. ≐-trans (stands (summedPoints ws vs) out out′ r (summed-fits ws vs out e) (a .done e)) (sums-is (shapePoints ws) (shapePoints vs));
+  turning = λ ws out r out′ a e. ≐-trans (stands (planPoints ws) out out′ r (turned-fits ws out e) (a .done e)) (plan-points ws);
+  cleaning = part-direct;
+}

@@ -1,0 +1,35 @@
+-- The owner's demand 1: the answer to every call, for all words and all cells, is a result or one of the numbered refusals, the first that applies in
+-- their order, and a refusal changes no lent word or cell.
+use mathlib.Core.Path.{_≡_}
+use mathlib.Core.Logic.{_⊎_, _≢_}
+use mathlib.Core.Bool.{Bool}
+use mathlib.Core.List.{List}
+use Prim.Native.Nat.{ℕ}
+use Rattle.plane.specs.Point.{Point}
+use Rattle.words.specs.Ground.{Test, firstOf, stated, refusal}
+use Rattle.words.specs.declared.Answer.{Answer}
+use Rattle.shapes.specs.Calls.{Moved, movingTests, Joined, joiningTests, Summed, summingTests, TurnedBack, turningTests}
+use Rattle.planning.specs.Planning.{planningTests, Planned}
+use Rattle.grids.specs.Frame.{frameTests, LoadCounted}
+use Rattle.grids.specs.Grid.{putTests, FramePut, stageTests, Staged}
+use Rattle.cleaning.specs.Cleaning.{operationTests, Cleaned}
+use Rattle.cleaning.specs.declared.Operation.{Operation}
+
+-- for a call with these tests: the number that is answered is that of the first ground that holds, 0 where none does, and a refusal leaves all that is
+-- lent as it is
+abbrev pub First : List Test → Answer → Type 0 → Type 0
+First tests r Unchanged = (stated r .0 ≡ firstOf tests) × (stated r .0 ≢ 0 → Unchanged)
+
+-- call by call; planning has one ground more, 10, which is tried where no other holds
+pub record Demand1 : Type 0 where
+  pub moving : (ws : List ℕ) (d : Point) (out : List ℕ) (r : Answer) (out′ : List ℕ) → Moved ws d out r out′ → First (movingTests ws d out) r (out′ ≡ out)
+  pub joining : (ws vs out : List ℕ) (r : Answer) (out′ : List ℕ) → Joined ws vs out r out′ → First (joiningTests ws vs out) r (out′ ≡ out)
+  pub summing : (ws vs out : List ℕ) (r : Answer) (out′ : List ℕ) → Summed ws vs out r out′ → First (summingTests ws vs out) r (out′ ≡ out)
+  pub turning : (ws out : List ℕ) (r : Answer) (out′ : List ℕ) → TurnedBack ws out r out′ → First (turningTests ws out) r (out′ ≡ out)
+  pub planning : (ws out : List ℕ) (r : Answer) (out′ : List ℕ) → Planned ws out r out′
+      → First (planningTests ws out) r (out′ ≡ out) ⊎ ((firstOf (planningTests ws out) ≡ 0) × (stated r ≡ refusal 10) × (out′ ≡ out))
+  pub counting : (W H : ℕ) (f : List ℕ) (r : Answer) → LoadCounted W H f r → stated r .0 ≡ firstOf (frameTests W H f)
+  pub putting : (W H : ℕ) (f i : List ℕ) (r : Answer) (i′ : List ℕ) → FramePut W H f i r i′ → First (putTests W H f i) r (i′ ≡ i)
+  pub staging : (erode : Bool) (w W H : ℕ) (g i : List ℕ) (r : Answer) (i′ : List ℕ) → Staged erode w W H g i r i′ → First (stageTests w W H g i) r (i′ ≡ i)
+  pub cleaning : (op : Operation) (plan : List ℕ) (W H : ℕ) (f i j : List ℕ) (r : Answer) (i′ j′ : List ℕ)
+      → Cleaned op plan W H f i j r i′ j′ → First (operationTests plan W H f i j) r ((i′ ≡ i) × (j′ ≡ j))

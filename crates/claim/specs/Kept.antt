@@ -1,0 +1,31 @@
+-- No promise is empty: on every input, accepted or refused, there is an answer with lent memory as it says. For planning this rests on the decision whether
+-- there is a chain, which is what a search is for.
+use mathlib.Core.Path.{_≡_}
+use mathlib.Core.Logic.{_⊎_}
+use mathlib.Core.Bool.{Bool}
+use mathlib.Core.List.{List}
+use Prim.Native.Nat.{ℕ}
+use Rattle.plane.specs.Point.{Point}
+use Rattle.words.specs.Ground.{firstOf}
+use Rattle.words.specs.declared.Answer.{Answer}
+use Rattle.masks.specs.Chain.{Chain, Picked}
+use Rattle.shapes.specs.Calls.{Moved, Joined, Summed, TurnedBack}
+use Rattle.planning.specs.Planning.{Shape, member, permitted, planningTests, Planned}
+use Rattle.grids.specs.Frame.{LoadCounted}
+use Rattle.grids.specs.Grid.{FramePut, Staged}
+use Rattle.cleaning.specs.Cleaning.{Cleaned}
+use Rattle.cleaning.specs.declared.Operation.{Operation}
+
+pub record Kept : Type 0 where
+  pub moving : (ws : List ℕ) (d : Point) (out : List ℕ) → (r : Answer) × (out′ : List ℕ) × Moved ws d out r out′
+  pub joining : (ws vs out : List ℕ) → (r : Answer) × (out′ : List ℕ) × Joined ws vs out r out′
+  pub summing : (ws vs out : List ℕ) → (r : Answer) × (out′ : List ℕ) × Summed ws vs out r out′
+  pub turning : (ws out : List ℕ) → (r : Answer) × (out′ : List ℕ) × TurnedBack ws out r out′
+  pub planning : (ws out : List ℕ)
+      → (firstOf (planningTests ws out) ≡ 0 → (¬ Chain member (Shape ws)) ⊎ ((d : Point) × (ms : List ℕ) × Picked permitted (Shape ws) d ms))
+      → (r : Answer) × (out′ : List ℕ) × Planned ws out r out′
+  pub counting : (W H : ℕ) (f : List ℕ) → (r : Answer) × LoadCounted W H f r
+  pub putting : (W H : ℕ) (f i : List ℕ) → (r : Answer) × (i′ : List ℕ) × FramePut W H f i r i′
+  pub staging : (erode : Bool) (w W H : ℕ) (g i : List ℕ) → (r : Answer) × (i′ : List ℕ) × Staged erode w W H g i r i′
+  pub cleaning : (op : Operation) (plan : List ℕ) (W H : ℕ) (f i j : List ℕ)
+      → (r : Answer) × (i′ : List ℕ) × (j′ : List ℕ) × Cleaned op plan W H f i j r i′ j′
