@@ -33,7 +33,9 @@ module _ (op : Operation) (ws : List ℕ) (W H : ℕ) (f i j : List ℕ) (s : An
   accepts : firstOf (shapeTests ws) ≡ 0 → firstOf (planningTests ws (S .own)) ≡ 0
   unfolding shapeTests
   accepts e =
-      unclear (planningTests ws (S .own)) (clear-append (shapeTests ws) ((9, shortOutput 32 (S .own)) ∷ []) (clear (shapeTests ws) tt e) (not-ltb (length (S .own)) 32 (let l = S .room in omega arith), tt))
+      let l = S .room in
+      let room = not-ltb (length (S .own)) 32 (omega arith) in
+      unclear (planningTests ws (S .own)) (clear-append (shapeTests ws) ((9, shortOutput 32 (S .own)) ∷ []) (clear (shapeTests ws) tt e) (room, tt))
 
   pub claimed : Claim op ws W H f i j s i′ j′ p
   claimed = record {

@@ -29,7 +29,9 @@ use Rattle.claim.specs.Kept.{Kept}
 -- ---- calls that write a list, or a grid
 
 list-kept : (ts : List Test) (A : List Point) (out : List ℕ) → T (known ts) → (r : Answer) × (out′ : List ℕ) × ListAnswered ts A out r out′
-list-kept ts A out k = can-keep ts k out (λ out′. out′ ≡ out) (λ r out′. ListWritten A out r out′) refl (λ _. (Done (length l), l ++ drop (length l) out, record { answer = refl; words = refl }))
+list-kept ts A out k =
+    can-keep ts k out (λ out′. out′ ≡ out) (λ r out′. ListWritten A out r out′) refl
+    (λ _. (Done (length l), l ++ drop (length l) out, record { answer = refl; words = refl }))
   where
     l : List ℕ
     l = listed A
@@ -42,7 +44,8 @@ grid-kept ts W H g i k = can-keep ts k i (λ i′. i′ ≡ i) (λ r i′. GridW
 plan-kept : (ws out : List ℕ) → (firstOf (planningTests ws out) ≡ 0 → (¬ Chain subset (Shape ws)) ⊎ ((d : Point) × (ms : List ℕ) × Picked stage (Shape ws) d ms))
     → (r : Answer) × (out′ : List ℕ) × Planned ws out r out′
 unfolding shapeTests
-plan-kept ws out f = can-keep (planningTests ws out) tt out (λ out′. out′ ≡ out) (λ r out′. Unplannable ws out r out′ ⊎ PlanWritten ws out r out′) refl (λ e. go e (f e))
+plan-kept ws out f =
+    can-keep (planningTests ws out) tt out (λ out′. out′ ≡ out) (λ r out′. Unplannable ws out r out′ ⊎ PlanWritten ws out r out′) refl (λ e. go e (f e))
   where
     go : firstOf (planningTests ws out) ≡ 0 → (¬ Chain subset (Shape ws)) ⊎ ((d : Point) × (ms : List ℕ) × Picked stage (Shape ws) d ms)
         → (r : Answer) × (out′ : List ℕ) × (Unplannable ws out r out′ ⊎ PlanWritten ws out r out′)

@@ -105,6 +105,7 @@ unfolding planTests workTests inTurn lastGrid cells valueAt _+ᵖ_ negᵖ
 runs r i′ j′ p = let q = p .done refl in (q .answer, q .handed, q .first-size, q .first-past, q .second-size, q .second-past)
 
 -- and a refusal leaves both images
-runs-not : (r : Answer) (i′ j′ : List ℕ) → Cleaned Closing (0x30000000 ∷ 0x40000f0f ∷ []) 1 1 (2 ∷ []) (5 ∷ []) (6 ∷ []) r i′ j′ → (stated r ≡ refusal 13) × ((i′ ≡ 5 ∷ []) × (j′ ≡ 6 ∷ []))
+runs-not : (r : Answer) (i′ j′ : List ℕ) → Cleaned Closing (0x30000000 ∷ 0x40000f0f ∷ []) 1 1 (2 ∷ []) (5 ∷ []) (6 ∷ []) r i′ j′
+    → (stated r ≡ refusal 13) × ((i′ ≡ 5 ∷ []) × (j′ ≡ 6 ∷ []))
 unfolding planTests workTests _+ᵖ_
 runs-not r i′ j′ p = p .refused (λ e. let n : _≡_ {A = ℕ} 13 0 = e in omega arith)

@@ -171,7 +171,8 @@ puts-not : (r : Answer) (i′ : List ℕ) → FramePut 1 1 (2 ∷ []) (replicate
 unfolding putTests
 puts-not r i′ p = p .refused (λ e. let n : _≡_ {A = ℕ} 13 0 = e in omega arith)
 
-stages-dilation : (r : Answer) (i′ : List ℕ) → Staged false 0x50000003 1 1 (1 ∷ replicate 255 0) (replicate 257 7) r i′ → (stated r ≡ result 0) × (i′ ≡ 1 ∷ 1 ∷ replicate 254 0 ++ 7 ∷ [])
+stages-dilation : (r : Answer) (i′ : List ℕ) → Staged false 0x50000003 1 1 (1 ∷ replicate 255 0) (replicate 257 7) r i′
+    → (stated r ≡ result 0) × (i′ ≡ 1 ∷ 1 ∷ replicate 254 0 ++ 7 ∷ [])
 unfolding stageTests stage once cells valueAt maskCells _+ᵖ_ negᵖ
 stages-dilation r i′ p = (p .done refl .answer, p .done refl .image)
 

@@ -44,4 +44,5 @@ every-subset f = (m, packed-below b 0 9, λ c. (to c, from c))
         let x : (3 * j + i) % 3 ≡ i = omega arith in
         let y : (3 * j + i) / 3 ≡ j = omega arith in
         let l : 3 * j + i < 9 = omega arith in
-        In-map (λ k. (k % 3, k / 3)) (bits 9 m) c .1 (3 * j + i, bit (3 * j + i) .1 (l, subst (λ a. T (f a ((3 * j + i) / 3))) (sym x) (subst (λ a. T (f i a)) (sym y) (h .2))), pair (sym x) (sym y))
+        let t : T (b (3 * j + i)) = subst (λ a. T (f a ((3 * j + i) / 3))) (sym x) (subst (λ a. T (f i a)) (sym y) (h .2)) in
+        In-map (λ k. (k % 3, k / 3)) (bits 9 m) c .1 (3 * j + i, bit (3 * j + i) .1 (l, t), pair (sym x) (sym y))

@@ -34,7 +34,8 @@ module _ (input output ws : List ℕ) (R : Reads input ws) (P : Printed input ou
       q .prints ∙ ap (λ s. shown s (q .out′)) (r .0)
 
 -- a list that another ground refuses
-pub printed-refused : (input output ws : List ℕ) → Reads input ws → Printed input output → (g : ℕ) → ((out : List ℕ) → length out ≡ 32 → firstOf (planningTests ws out) ≡ suc g) → output ≡ refusedLine (suc g)
+pub printed-refused : (input output ws : List ℕ) → Reads input ws → Printed input output
+    → (g : ℕ) → ((out : List ℕ) → length out ≡ 32 → firstOf (planningTests ws out) ≡ suc g) → output ≡ refusedLine (suc g)
 printed-refused input output ws R P g wrong =
     let q = P .readable ws R in
     let e = wrong (q .out) (q .room) in

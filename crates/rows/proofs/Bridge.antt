@@ -77,12 +77,22 @@ points-sum X Y d e p = (
 
 -- ---- residues
 
+-- a cell moved on the plane by d, and a cell of a mask that stands at the origin, add up in the window
+step : (x y i j : ℕ) (d : Point) → (point (x, y) +ᵖ d) +ᵖ (point (i, j) +ᵖ origin) ≡ point (x + i, y + j) +ᵖ d
+step x y i j d = add-moved x y i j d origin ∙ ap (λ z. point (x + i, y + j) +ᵖ z) (+ᵖ-origin d)
+
 pub points-residue : (X Y : Cells) (d : Point) (x y : ℕ) → Residue X Y x y ↔ (Points X d ⊖ Points Y origin) (point (x, y) +ᵖ d)
 points-residue X Y d x y = (
-  λ r q h. record { x = x + h .x; y = y + h .y; cell = r .all (h .x) (h .y) (h .cell); at = sym (add-moved x y (h .x) (h .y) d origin ∙ ap (λ z. point (x + h .x, y + h .y) +ᵖ z) (+ᵖ-origin d)) ∙ ap (λ z. point (x, y) +ᵖ d +ᵖ z) (h .at) },
+  λ r q h. record {
+    x = x + h .x;
+    y = y + h .y;
+    cell = r .all (h .x) (h .y) (h .cell);
+    at = sym (step x y (h .x) (h .y) d) ∙ ap (λ z. point (x, y) +ᵖ d +ᵖ z) (h .at);
+  },
   λ h. record {
     all = λ i j c.
-        points-cell X d (x + i) (y + j) .0 (subst (Points X d) (add-moved x y i j d origin ∙ ap (λ z. point (x + i, y + j) +ᵖ z) (+ᵖ-origin d)) (h (point (i, j) +ᵖ origin) (record { x = i; y = j; cell = c; at = refl })));
+        let k : Points Y origin (point (i, j) +ᵖ origin) = record { x = i; y = j; cell = c; at = refl } in
+        points-cell X d (x + i) (y + j) .0 (subst (Points X d) (step x y i j d) (h (point (i, j) +ᵖ origin) k));
   },
 )
 
@@ -132,5 +142,7 @@ sum-points [] = list-points AtOrigin ((0, 0) ∷ []) (λ x y. (λ o. inl (λ i. 
     only-one x y (inl e) = record { at-x = ap (λ c. c .0) e; at-y = ap (λ c. c .1) e }
     only-one x y (inr f) = absurd f
 sum-points (m ∷ ms) =
-    ≐-trans (subst (λ o. Points (Sum (AtMask m) (AtSum ms)) o ≐ Points (AtMask m) origin ⊕ Points (AtSum ms) origin) (+ᵖ-origin origin) (points-sum (AtMask m) (AtSum ms) origin origin))
-    (≐-trans (⊕-cong (mask-points m) (sum-points ms)) (≐-sym (sum-cons m ms)))
+    let X = AtMask m in
+    let Y = AtSum ms in
+    let s = subst (λ o. Points (Sum X Y) o ≐ Points X origin ⊕ Points Y origin) (+ᵖ-origin origin) (points-sum X Y origin origin) in
+    ≐-trans s (≐-trans (⊕-cong (mask-points m) (sum-points ms)) (≐-sym (sum-cons m ms)))

@@ -164,16 +164,22 @@ unfolding shapeTests
 short-first = refl
 
 -- 32 words pass ground 1, 33 and 1 do not
-plan-32 : (firstOf (planTests (0x3000001e ∷ 0x40000f0f ∷ replicate 30 0x50000001)) ≡ 7) × (firstOf (planTests (0x3000001f ∷ 0x40000f0f ∷ replicate 31 0x50000001)) ≡ 1) × (firstOf (planTests (0x40000000 ∷ [])) ≡ 1)
+plan-32 : (firstOf (planTests (0x3000001e ∷ 0x40000f0f ∷ replicate 30 0x50000001)) ≡ 7)
+    × (firstOf (planTests (0x3000001f ∷ 0x40000f0f ∷ replicate 31 0x50000001)) ≡ 1)
+    × (firstOf (planTests (0x40000000 ∷ [])) ≡ 1)
 unfolding planTests
 plan-32 = (refl, refl, refl)
 
-plan-kinds : (firstOf (planTests (0x40000000 ∷ 0x40000f0f ∷ [])) ≡ 2) × (firstOf (planTests (0x30000000 ∷ 0x30000f0f ∷ [])) ≡ 2) × (firstOf (planTests (0x30000101 ∷ 0x40000f0f ∷ 0x40000003 ∷ [])) ≡ 2)
+plan-kinds : (firstOf (planTests (0x40000000 ∷ 0x40000f0f ∷ [])) ≡ 2)
+    × (firstOf (planTests (0x30000000 ∷ 0x30000f0f ∷ [])) ≡ 2)
+    × (firstOf (planTests (0x30000101 ∷ 0x40000f0f ∷ 0x40000003 ∷ [])) ≡ 2)
 unfolding planTests
 plan-kinds = (refl, refl, refl)
 
 -- an extra bit comes before a wrong count
-plan-bits : (firstOf (planTests (0x30000101 ∷ 0x40000f0f ∷ [])) ≡ 3) × (firstOf (planTests (0x30000000 ∷ 0x40010f0f ∷ [])) ≡ 3) × (firstOf (planTests (0x30000001 ∷ 0x40000f0f ∷ 0x50000203 ∷ [])) ≡ 3)
+plan-bits : (firstOf (planTests (0x30000101 ∷ 0x40000f0f ∷ [])) ≡ 3)
+    × (firstOf (planTests (0x30000000 ∷ 0x40010f0f ∷ [])) ≡ 3)
+    × (firstOf (planTests (0x30000001 ∷ 0x40000f0f ∷ 0x50000203 ∷ [])) ≡ 3)
 unfolding planTests
 plan-bits = (refl, refl, refl)
 
@@ -185,7 +191,8 @@ masks-first = refl
 -- ---- the calls that write a shape list
 
 -- out of range below as above, in y as in x
-range-below : (firstOf (movingTests (0x10000000 ∷ 0x20000001 ∷ []) (negsuc 15, pos 0) []) ≡ 8) × (firstOf (movingTests (0x10000000 ∷ 0x20000001 ∷ []) (negsuc 14, negsuc 14) []) ≡ 9)
+range-below : (firstOf (movingTests (0x10000000 ∷ 0x20000001 ∷ []) (negsuc 15, pos 0) []) ≡ 8)
+    × (firstOf (movingTests (0x10000000 ∷ 0x20000001 ∷ []) (negsuc 14, negsuc 14) []) ≡ 9)
 unfolding shapeTests shapePoints outOfRange _+ᵖ_ negᵖ
 range-below = (refl, refl)
 
@@ -194,16 +201,19 @@ unfolding shapeTests shapePoints outOfRange _+ᵖ_ negᵖ
 range-y = (refl, refl)
 
 -- an output list of 17 words is enough for a new shape
-new-room : (firstOf (movingTests (0x10000000 ∷ 0x20000001 ∷ []) (pos 0, pos 0) (replicate 17 0)) ≡ 0) × (firstOf (movingTests (0x10000000 ∷ 0x20000001 ∷ []) (pos 0, pos 0) (replicate 16 0)) ≡ 9)
+new-room : (firstOf (movingTests (0x10000000 ∷ 0x20000001 ∷ []) (pos 0, pos 0) (replicate 17 0)) ≡ 0)
+    × (firstOf (movingTests (0x10000000 ∷ 0x20000001 ∷ []) (pos 0, pos 0) (replicate 16 0)) ≡ 9)
 unfolding shapeTests shapePoints outOfRange _+ᵖ_ negᵖ
 new-room = (refl, refl)
 
 -- the union of columns 0 and 15 is in range, their sum with column 1 is not; the second list counts in both calls
-join-range : (firstOf (joiningTests (0x10000000 ∷ 0x20008000 ∷ []) (0x10000000 ∷ 0x20000002 ∷ []) (replicate 17 0)) ≡ 0) × (firstOf (joiningTests (0x1000000f ∷ 0x20000001 ∷ []) (0x10000000 ∷ 0x20000002 ∷ []) (replicate 17 0)) ≡ 8)
+join-range : (firstOf (joiningTests (0x10000000 ∷ 0x20008000 ∷ []) (0x10000000 ∷ 0x20000002 ∷ []) (replicate 17 0)) ≡ 0)
+    × (firstOf (joiningTests (0x1000000f ∷ 0x20000001 ∷ []) (0x10000000 ∷ 0x20000002 ∷ []) (replicate 17 0)) ≡ 8)
 unfolding shapeTests shapePoints outOfRange _+ᵖ_ negᵖ
 join-range = (refl, refl)
 
-sum-range : (firstOf (summingTests (0x10000000 ∷ 0x20008000 ∷ []) (0x10000000 ∷ 0x20000002 ∷ []) (replicate 17 0)) ≡ 8) × (firstOf (summingTests (0x1000000f ∷ 0x20000001 ∷ []) (0x10000000 ∷ 0x20000002 ∷ []) (replicate 17 0)) ≡ 0)
+sum-range : (firstOf (summingTests (0x10000000 ∷ 0x20008000 ∷ []) (0x10000000 ∷ 0x20000002 ∷ []) (replicate 17 0)) ≡ 8)
+    × (firstOf (summingTests (0x1000000f ∷ 0x20000001 ∷ []) (0x10000000 ∷ 0x20000002 ∷ []) (replicate 17 0)) ≡ 0)
 unfolding shapeTests shapePoints outOfRange _+ᵖ_ negᵖ
 sum-range = (refl, refl)
 
@@ -217,19 +227,23 @@ unfolding planTests
 turning-first = refl
 
 -- what each call leaves: the list, then the words that were there
-moves : (r : Answer) (out′ : List ℕ) → Moved (0x10000000 ∷ 0x20000005 ∷ []) (pos 2, pos 3) (replicate 17 7) r out′ → (stated r ≡ result 2) × (out′ ≡ 0x10000000 ∷ 0x20030014 ∷ replicate 15 7)
+moves : (r : Answer) (out′ : List ℕ) → Moved (0x10000000 ∷ 0x20000005 ∷ []) (pos 2, pos 3) (replicate 17 7) r out′
+    → (stated r ≡ result 2) × (out′ ≡ 0x10000000 ∷ 0x20030014 ∷ replicate 15 7)
 unfolding shapeTests listed shapePoints outOfRange _+ᵖ_ negᵖ
 moves r out′ p = (p .done refl .answer, p .done refl .words)
 
-joins : (r : Answer) (out′ : List ℕ) → Joined (0x10000001 ∷ 0x20000005 ∷ []) (0x10000000 ∷ 0x20000001 ∷ 0x20020001 ∷ []) (replicate 17 7) r out′ → (stated r ≡ result 3) × (out′ ≡ 0x10000001 ∷ 0x20000007 ∷ 0x20020002 ∷ replicate 14 7)
+joins : (r : Answer) (out′ : List ℕ) → Joined (0x10000001 ∷ 0x20000005 ∷ []) (0x10000000 ∷ 0x20000001 ∷ 0x20020001 ∷ []) (replicate 17 7) r out′
+    → (stated r ≡ result 3) × (out′ ≡ 0x10000001 ∷ 0x20000007 ∷ 0x20020002 ∷ replicate 14 7)
 unfolding shapeTests listed shapePoints outOfRange _+ᵖ_ negᵖ
 joins r out′ p = (p .done refl .answer, p .done refl .words)
 
-adds : (r : Answer) (out′ : List ℕ) → Summed (0x10000001 ∷ 0x20000005 ∷ []) (0x10000000 ∷ 0x20000001 ∷ 0x20020001 ∷ []) (replicate 17 7) r out′ → (stated r ≡ result 3) × (out′ ≡ 0x10000001 ∷ 0x20000005 ∷ 0x20020005 ∷ replicate 14 7)
+adds : (r : Answer) (out′ : List ℕ) → Summed (0x10000001 ∷ 0x20000005 ∷ []) (0x10000000 ∷ 0x20000001 ∷ 0x20020001 ∷ []) (replicate 17 7) r out′
+    → (stated r ≡ result 3) × (out′ ≡ 0x10000001 ∷ 0x20000005 ∷ 0x20020005 ∷ replicate 14 7)
 unfolding shapeTests listed shapePoints outOfRange _+ᵖ_ negᵖ
 adds r out′ p = (p .done refl .answer, p .done refl .words)
 
-turns : (r : Answer) (out′ : List ℕ) → TurnedBack (0x30000002 ∷ 0x4000110e ∷ 0x50000003 ∷ 0x50000005 ∷ []) (replicate 17 7) r out′ → (stated r ≡ result 2) × (out′ ≡ 0x10000001 ∷ 0x2002000f ∷ replicate 15 7)
+turns : (r : Answer) (out′ : List ℕ) → TurnedBack (0x30000002 ∷ 0x4000110e ∷ 0x50000003 ∷ 0x50000005 ∷ []) (replicate 17 7) r out′
+    → (stated r ≡ result 2) × (out′ ≡ 0x10000001 ∷ 0x2002000f ∷ replicate 15 7)
 unfolding planTests listed planPoints _+ᵖ_ negᵖ
 turns r out′ p = (p .done refl .answer, p .done refl .words)
 
