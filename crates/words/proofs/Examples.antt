@@ -2,7 +2,9 @@
 use mathlib.Core.Path.{_≡_, refl}
 use mathlib.Core.Bool.{true, false}
 use mathlib.Core.List.{[], _∷_}
+use Rattle.words.specs.declared.Word.the-variants.{Anchor, Row, Head, Place, Stage, Unused}
 use Rattle.words.specs.Ground.{firstOf, both}
+use Rattle.words.specs.Read.{wordOf}
 use Rattle.words.specs.Word.{kind, anchorKind, rowKind, headKind, placeKind, stageKind, anchorX, anchorY, anchorWord, rowY, rowColumns, rowWord, headCount, headWord, placeX, placeY, placeWord, stageMask, stageWord, extraBit, wrongKind}
 
 -- ---- words
@@ -25,6 +27,13 @@ fields-place = (refl, refl, refl)
 
 fields-stage : (stageMask 0x50000100 ≡ 256) × (stageWord 256 ≡ 0x50000100)
 fields-stage = (refl, refl)
+
+-- each read by its kind; kinds 0 and 6 to 15 say nothing
+read-kinds : (wordOf 0x100000ba ≡ Anchor 10 11) × (wordOf 0x200c8001 ≡ Row 12 0x8001) × (wordOf 0x3000000d ≡ Head 13)
+read-kinds = (refl, refl, refl)
+
+read-more : (wordOf 0x40000f0e ≡ Place 14 15) × (wordOf 0x50000100 ≡ Stage 256) × (wordOf 0x00000001 ≡ Unused 0) × (wordOf 0xf0000001 ≡ Unused 15)
+read-more = (refl, refl, refl, refl)
 
 -- each kind's highest named bit passes ground 3, the next one does not
 named-anchor : (extraBit anchorKind 0x10000080 ≡ false) × (extraBit anchorKind 0x10000100 ≡ true)

@@ -54,6 +54,9 @@ rowY w = w / 2 ^ 16 % 2 ^ 4
 abbrev pub rowColumns : ℕ → List ℕ
 rowColumns w = bits 16 w
 
+abbrev pub rowBits : ℕ → ℕ
+rowBits w = w % 2 ^ 16
+
 -- a head: bits 0–7 the number of stages
 abbrev pub headCount : ℕ → ℕ
 headCount w = w % 2 ^ 8

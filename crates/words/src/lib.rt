@@ -1,6 +1,43 @@
-// What a call answers: a result, or the ground that refuses it. The layout of words is in specs/Word.antt.
+// What a word says, by its kind, and what a call answers: a result, or the ground that refuses it. The layout of words is in specs/Word.antt.
 ghost use mathlib.Core.Path.{_≡_};
 ghost use Rattle.words.specs.Ground.{numberOf};
+ghost use Rattle.words.specs.Read.{wordOf};
+
+// A word, read by its kind.
+pub enum Word {
+    Anchor { ax: u32, ay: u32 },
+    Row { y: u32, columns: u32 },
+    Head(u32),
+    Place { x: u32, y: u32 },
+    Stage(u32),
+    Unused(u32),
+}
+
+// The kind in the top four bits decides how the rest is read.
+pub fn read(w: u32) -> Word
+    ensures { λ r. ⌜ r ≡ wordOf w ⌝ }
+{
+    let kind = w / 268435456;
+    match kind {
+        0 => Word::Unused(0),
+        1 => Word::Anchor {
+            ax: w % 16,
+            ay: w / 16 % 16,
+        },
+        2 => Word::Row {
+            y: w / 65536 % 16,
+            columns: w % 65536,
+        },
+        3 => Word::Head(w % 256),
+        4 => Word::Place {
+            x: w % 256,
+            y: w / 256 % 256,
+        },
+        5 => Word::Stage(w % 512),
+        6..=15 => Word::Unused(kind),
+        _ => Word::Unused(kind),
+    }
+}
 
 // The grounds, in document 01's order; `numberOf` in specs/Ground.antt gives each its number.
 pub enum Ground {
