@@ -1,2 +1,10 @@
 pub mod Bridge
 pub mod Examples
+pub mod RowBits
+pub mod Fill
+pub mod Shifts
+pub mod Sums
+pub mod MaskRows
+pub mod Extents
+pub mod Joins
+pub mod Known

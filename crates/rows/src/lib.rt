@@ -1,1 +1,235 @@
-// Rows of bits, [u16; 16], as cells of the window: what they are is in specs/, and how they stand to the plane in proofs/.
+// Rows of cells as 16-bit words, [u16; 16]: bit x of row y is the cell (x, y), and the window is the 16 × 16 cells that rows can hold.
+// sum_of and residue_of are ⊕ and ⊖ cut to the window; same and empty test rows; mask_rows, joined and lowered make them; first_row, last_row,
+// first_column and last_column say how far they reach.
+ghost use mathlib.Core.Path.{_≡_};
+ghost use mathlib.Core.Bool.{true, false};
+ghost use Prim.Native.Nat.{_<_, _%_};
+ghost use Rattle.rows.specs.Cells.{Same, At, bit, AtMask};
+ghost use Rattle.rows.specs.Leaves.{Onto, Under, SumOf, ResidueOf, RowSum, RowResidue, Either, Lowered, None, Some, Columns, FirstOf, LastOf, row, column};
+
+// Whether bit i of a is set.
+fn has(a: u16, i: u32) -> bool
+    requires { ⌜ i < 16 ⌝ }
+    ensures yes { λ r. ⌜ (r ≡ true → bit a i ≡ 1) ⌝ }
+    ensures no { λ r. ⌜ (r ≡ false → bit a i ≡ 1 → ⊥) ⌝ }
+{
+    (a >> i) % 2 == 1
+}
+
+// z with a, moved by (i, j), put onto it, cut to the window.
+fn onto(z: [u16; 16], a: [u16; 16], i: u32, j: usize) -> [u16; 16]
+    requires { ⌜ (i < 16) × (j < 16) ⌝ }
+    ensures { λ r. ⌜ Onto z a i j r ⌝ }
+{
+    let mut r = z;
+    let mut y = j;
+    while y < 16 {
+        r[y] = r[y] | (a[y - j] << i);
+        y += 1;
+    }
+    r
+}
+
+// z without the cells that (i, j) does not move into t.
+fn under(z: [u16; 16], t: [u16; 16], i: u32, j: usize) -> [u16; 16]
+    requires { ⌜ (i < 16) × (j < 16) ⌝ }
+    ensures { λ r. ⌜ Under z t i j r ⌝ }
+{
+    let mut r = z;
+    let mut y = 0;
+    while y < 16 {
+        if y + j < 16 {
+            r[y] = r[y] & (t[y + j] >> i);
+        } else {
+            r[y] = 0;
+        }
+        y += 1;
+    }
+    r
+}
+
+// z with the sum of a and the row b, at row j, put onto it.
+fn row_sum(z: [u16; 16], a: [u16; 16], b: u16, j: usize) -> [u16; 16]
+    requires { ⌜ j < 16 ⌝ }
+    ensures { λ r. ⌜ RowSum z a b j 16 r ⌝ }
+{
+    let mut r = z;
+    let mut i: u32 = 0;
+    while i < 16 {
+        if has(b, i) {
+            let next = onto(r, a, i, j);
+            r = next;
+        }
+        i += 1;
+    }
+    r
+}
+
+// The part of a ⊕ b that lies in the window.
+pub fn sum_of(a: [u16; 16], b: [u16; 16]) -> [u16; 16]
+    ensures { λ r. ⌜ SumOf a b r ⌝ }
+{
+    let mut r = [0u16; 16];
+    let mut j = 0;
+    while j < 16 {
+        let next = row_sum(r, a, b[j], j);
+        r = next;
+        j += 1;
+    }
+    r
+}
+
+// z without the cells that some cell of the row b, at row j, does not move into t.
+fn row_residue(z: [u16; 16], t: [u16; 16], b: u16, j: usize) -> [u16; 16]
+    requires { ⌜ j < 16 ⌝ }
+    ensures { λ r. ⌜ RowResidue z t b j 16 r ⌝ }
+{
+    let mut r = z;
+    let mut i: u32 = 0;
+    while i < 16 {
+        if has(b, i) {
+            let next = under(r, t, i, j);
+            r = next;
+        }
+        i += 1;
+    }
+    r
+}
+
+// The part of t ⊖ b that lies in the window.
+pub fn residue_of(t: [u16; 16], b: [u16; 16]) -> [u16; 16]
+    ensures { λ r. ⌜ ResidueOf t b r ⌝ }
+{
+    let mut r = [65535u16; 16];
+    let mut j = 0;
+    while j < 16 {
+        let next = row_residue(r, t, b[j], j);
+        r = next;
+        j += 1;
+    }
+    r
+}
+
+// Whether a and b have the same cells.
+pub fn same(a: [u16; 16], b: [u16; 16]) -> bool
+    ensures yes { λ r. ⌜ (r ≡ true → Same (At a) (At b)) ⌝ }
+    ensures no { λ r. ⌜ (r ≡ false → Same (At a) (At b) → ⊥) ⌝ }
+{
+    let mut i = 0;
+    while i < 16 {
+        if a[i] != b[i] {
+            return false;
+        }
+        i += 1;
+    }
+    true
+}
+
+// The rows of a 3×3 mask.
+pub fn mask_rows(m: u16) -> [u16; 16]
+    ensures { λ r. ⌜ Same (At r) (AtMask (m % 512)) ⌝ }
+{
+    let mut r = [0u16; 16];
+    r[0] = m % 8;
+    r[1] = m / 8 % 8;
+    r[2] = m / 64 % 8;
+    r
+}
+
+// The cells of a and of b.
+pub fn joined(a: [u16; 16], b: [u16; 16]) -> [u16; 16]
+    ensures { λ r. ⌜ Same (At r) (Either (At a) (At b)) ⌝ }
+{
+    onto(a, b, 0, 0)
+}
+
+// The cells of a, moved by (−i, −j); those that would leave the window are dropped.
+pub fn lowered(a: [u16; 16], i: u32, j: usize) -> [u16; 16]
+    ensures { λ r. ⌜ Same (At r) (Lowered (At a) i j) ⌝ }
+{
+    if i < 16 {
+        if j < 16 {
+            return under([65535u16; 16], a, i, j);
+        }
+    }
+    [0u16; 16]
+}
+
+// The least row of a with a cell; 16 where there is none.
+pub fn first_row(a: [u16; 16]) -> usize
+    ensures { λ r. ⌜ FirstOf row (At a) r ⌝ }
+{
+    let mut first = 0;
+    while first < 16 {
+        if a[first] != 0 {
+            return first;
+        }
+        first += 1;
+    }
+    16
+}
+
+// The greatest row of a with a cell; 16 where there is none.
+pub fn last_row(a: [u16; 16]) -> usize
+    ensures { λ r. ⌜ LastOf row (At a) r ⌝ }
+{
+    let mut last = 16;
+    while last > 0 {
+        last -= 1;
+        if a[last] != 0 {
+            return last;
+        }
+    }
+    16
+}
+
+// The columns in which a has a cell: bit x for column x.
+fn columns(a: [u16; 16]) -> u16
+    ensures { λ r. ⌜ Columns a 16 r ⌝ }
+{
+    let mut r: u16 = 0;
+    let mut y = 0;
+    while y < 16 {
+        r = r | a[y];
+        y += 1;
+    }
+    r
+}
+
+// The least column of a with a cell; 16 where there is none.
+pub fn first_column(a: [u16; 16]) -> u32
+    ensures { λ r. ⌜ FirstOf column (At a) r ⌝ }
+{
+    let c = columns(a);
+    let mut first: u32 = 0;
+    while first < 16 {
+        if has(c, first) {
+            return first;
+        }
+        first += 1;
+    }
+    16
+}
+
+// The greatest column of a with a cell; 16 where there is none.
+pub fn last_column(a: [u16; 16]) -> u32
+    ensures { λ r. ⌜ LastOf column (At a) r ⌝ }
+{
+    let c = columns(a);
+    let mut last: u32 = 16;
+    while last > 0 {
+        last -= 1;
+        if has(c, last) {
+            return last;
+        }
+    }
+    16
+}
+
+// Whether a has no cell.
+pub fn empty(a: [u16; 16]) -> bool
+    ensures yes { λ r. ⌜ (r ≡ true → None (At a)) ⌝ }
+    ensures no { λ r. ⌜ (r ≡ false → Some (At a)) ⌝ }
+{
+    first_row(a) == 16
+}

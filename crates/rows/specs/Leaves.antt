@@ -1,0 +1,105 @@
+-- What the functions on rows answer, by the cells of their results.
+use mathlib.Core.Path.{_≡_}
+use mathlib.Core.Logic.{_⊎_}
+use mathlib.Core.List.{List}
+use Prim.Native.Nat.{ℕ, _+_, _≤_, _<_}
+use Rattle.rows.specs.Cells.{Cells, Sum, Residue, At, bit, Greatest}
+
+-- (x, y) is a cell of X moved by (i, j)
+pub record Moved (X : Cells) (i j x y : ℕ) : Type 0 where
+  pub x1 : ℕ
+  pub y1 : ℕ
+  pub was : X x1 y1
+  pub at-x : x1 + i ≡ x
+  pub at-y : y1 + j ≡ y
+
+-- r is z with a, moved by (i, j), put onto it, cut to the window
+pub record Onto (z a : List ℕ) (i j : ℕ) (r : List ℕ) : Type 0 where
+  pub to : (x y : ℕ) → At r x y → At z x y ⊎ Moved (At a) i j x y
+  pub kept : (x y : ℕ) → At z x y → At r x y
+  pub from : (x y : ℕ) → At a x y → x + i < 16 → y + j < 16 → At r (x + i) (y + j)
+
+-- r is z without the cells that (i, j) does not move into t
+pub record Under (z t : List ℕ) (i j : ℕ) (r : List ℕ) : Type 0 where
+  pub kept : (x y : ℕ) → At r x y → At z x y
+  pub to : (x y : ℕ) → At r x y → At t (x + i) (y + j)
+  pub from : (x y : ℕ) → At z x y → At t (x + i) (y + j) → At r x y
+
+-- r is the part of a ⊕ b that lies in the window
+pub record SumOf (a b r : List ℕ) : Type 0 where
+  pub to : (x y : ℕ) → At r x y → Sum (At a) (At b) x y
+  pub from : (x y : ℕ) → Sum (At a) (At b) x y → x < 16 → y < 16 → At r x y
+
+-- r is the part of t ⊖ b that lies in the window
+pub record ResidueOf (t b r : List ℕ) : Type 0 where
+  pub to : (x y : ℕ) → At r x y → Residue (At t) (At b) x y
+  pub from : (x y : ℕ) → Residue (At t) (At b) x y → x < 16 → y < 16 → At r x y
+
+-- r is z with a, moved by (i, j) for each bit i < n of b, put onto it
+pub record RowSum (z a : List ℕ) (b j n : ℕ) (r : List ℕ) : Type 0 where
+  pub to : (x y : ℕ) → At r x y → At z x y ⊎ ((i : ℕ) × ((bit b i ≡ 1) × Moved (At a) i j x y))
+  pub kept : (x y : ℕ) → At z x y → At r x y
+  pub from : (i : ℕ) → i < n → bit b i ≡ 1 → (x y : ℕ) → At a x y → x + i < 16 → y + j < 16 → At r (x + i) (y + j)
+
+-- r is the sum of a and the rows of b before n
+pub record SumTo (a b : List ℕ) (n : ℕ) (r : List ℕ) : Type 0 where
+  pub to : (x y : ℕ) → At r x y → Sum (At a) (At b) x y
+  pub from : (i j : ℕ) → j < n → At b i j → (x y : ℕ) → At a x y → x + i < 16 → y + j < 16 → At r (x + i) (y + j)
+
+-- r is z without the cells that some bit i < n of b does not move into t
+pub record RowResidue (z t : List ℕ) (b j n : ℕ) (r : List ℕ) : Type 0 where
+  pub kept : (x y : ℕ) → At r x y → At z x y
+  pub to : (x y : ℕ) → At r x y → (i : ℕ) → i < n → bit b i ≡ 1 → At t (x + i) (y + j)
+  pub from : (x y : ℕ) → At z x y → ((i : ℕ) → i < n → bit b i ≡ 1 → At t (x + i) (y + j)) → At r x y
+
+-- r has the cells of the window that each cell of b before row n moves into t
+pub record ResidueTo (t b : List ℕ) (n : ℕ) (r : List ℕ) : Type 0 where
+  pub to : (x y : ℕ) → At r x y → (i j : ℕ) → j < n → At b i j → At t (x + i) (y + j)
+  pub from : (x y : ℕ) → x < 16 → y < 16 → ((i j : ℕ) → j < n → At b i j → At t (x + i) (y + j)) → At r x y
+
+-- the cells of X and of Y
+abbrev pub Either : Cells → Cells → Cells
+Either X Y x y = X x y ⊎ Y x y
+
+-- the cells of X, moved by (−i, −j)
+abbrev pub Lowered : Cells → ℕ → ℕ → Cells
+Lowered X i j x y = X (x + i) (y + j)
+
+-- X has no cell
+pub record None (X : Cells) : Type 0 where
+  pub no : (x y : ℕ) → X x y → ⊥
+
+-- X has a cell
+pub record Some (X : Cells) : Type 0 where
+  pub x : ℕ
+  pub y : ℕ
+  pub cell : X x y
+
+-- the row of a cell
+abbrev pub row : ℕ → ℕ → ℕ
+row x y = y
+
+-- the column of a cell
+abbrev pub column : ℕ → ℕ → ℕ
+column x y = x
+
+-- the least number of a cell of X, its column or its row, is n
+pub record Least (number : ℕ → ℕ → ℕ) (X : Cells) (n : ℕ) : Type 0 where
+  pub x : ℕ
+  pub y : ℕ
+  pub cell : X x y
+  pub at : number x y ≡ n
+  pub all : (x y : ℕ) → X x y → n ≤ number x y
+
+-- n is the least number of a cell of X, or 16 where X has none
+abbrev pub FirstOf : (ℕ → ℕ → ℕ) → Cells → ℕ → Type 0
+FirstOf number X n = Least number X n ⊎ (None X × (n ≡ 16))
+
+-- n is the greatest number of a cell of X, or 16 where X has none
+abbrev pub LastOf : (ℕ → ℕ → ℕ) → Cells → ℕ → Type 0
+LastOf number X n = Greatest number X n ⊎ (None X × (n ≡ 16))
+
+-- bit x of r is set where a has a cell in column x before row n
+pub record Columns (a : List ℕ) (n r : ℕ) : Type 0 where
+  pub to : (x : ℕ) → bit r x ≡ 1 → (y : ℕ) × At a x y
+  pub from : (x y : ℕ) → y < n → At a x y → bit r x ≡ 1
