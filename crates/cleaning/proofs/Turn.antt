@@ -170,14 +170,6 @@ turn-direct op W H f d ms A t s v e =
     subst (λ z. Direct op W H f A (cells W H (λ p. z (readAt op d p)))) (sym (last-whole op W H f ms t s v))
     (direct op W H f A (λ p. whole op S g (readAt op d p)) (λ p. whole-binary op S g b (readAt op d p)) is)
 
--- what a list of points gives directly, computed
-pub direct-cells : (op : Operation) (W H : ℕ) (f : List ℕ) (P : List Point) → ((i : ℕ) → getD f i 0 ≤ 1)
-    → Direct op W H f (In P) (cells W H (whole op P (frame free W H f)))
-direct-cells op W H f P v =
-    let g = frame free W H f in
-    let b = frame-binary W H f v in
-    direct op W H f (In P) (whole op P g) (whole-binary op P g b) (whole-set op P g b)
-
 -- equal sets of points give the same directly
 made-same : (op : Operation) (X A B : PointSet) → A ≐ B → made op X A ≐ made op X B
 made-same Dilation X A B e = ⊕-cong (≐-refl X) e

@@ -2,8 +2,6 @@
 use mathlib.Core.Path.{_≡_, refl}
 use mathlib.Core.Bool.{true, false}
 use mathlib.Core.List.{List, [], _∷_, map}
-use Prim.Native.Nat.{_+_, _/_, max}
-use Rattle.plane.specs.Extent.{width, height, span}
 use Rattle.plane.specs.Lists.{In}
 use Rattle.plane.specs.Point.{Point, Cell, point, _+ᵖ_, origin}
 use Rattle.masks.specs.Chain.{subset, Chain, PlanOf, Picked, before}
@@ -61,7 +59,3 @@ eightCells = (0, 0) ∷ (1, 1) ∷ (2, 1) ∷ (1, 2) ∷ (3, 2) ∷ (2, 3) ∷ (
 pub eight : Picked stage (In (map point eightCells)) origin (17 ∷ 33 ∷ 129 ∷ [])
 unfolding _+ᵖ_ search same stage sumCells cellSums
 eight = picked (In (map point eightCells)) eightCells origin (17 ∷ 33 ∷ 129 ∷ []) (placed (map point eightCells) eightCells origin refl tt tt) tt tt tt tt refl
-
-pub eight-extents : (max (width (map point eightCells)) (height (map point eightCells)) + 1) / 2 ≡ 2
-unfolding span
-eight-extents = refl

@@ -26,9 +26,6 @@ unfolding _+ᵖ_ negᵖ
 pub +ᵖ-left : (a b c : Point) → a +ᵖ (b +ᵖ c) ≡ b +ᵖ (a +ᵖ c)
 +ᵖ-left a b c = sym (+ᵖ-assoc a b c) ∙ ap (λ x. x +ᵖ c) (+ᵖ-comm a b) ∙ +ᵖ-assoc b a c
 
-pub origin-+ᵖ : (a : Point) → origin +ᵖ a ≡ a
-origin-+ᵖ a = +ᵖ-comm origin a ∙ +ᵖ-origin a
-
 pub +ᵖ-cancel : (a d : Point) → a +ᵖ d -ᵖ d ≡ a
 +ᵖ-cancel a d = +ᵖ-assoc a d (negᵖ d) ∙ ap (λ x. a +ᵖ x) (+ᵖ-neg d) ∙ +ᵖ-origin a
 

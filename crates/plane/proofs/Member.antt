@@ -1,18 +1,15 @@
 -- Membership in lists, and tests over all members of a list, each by induction on the list.
-use mathlib.Core.Path.{_≡_, refl, sym, _∙_, ap, subst}
+use mathlib.Core.Path.{_≡_, refl, sym, subst}
 use mathlib.Core.Logic.{_↔_, _⊎_, inl, inr, Iff·trans}
-use mathlib.Core.Bool.{Bool, true, false, not, cond, _||_}
+use mathlib.Core.Bool.{Bool, true, false, not, cond}
 use mathlib.Core.List.{List, [], _∷_, _++_, map}
 use Prim.Native.Nat.{ℕ, zero, suc, _+_, _≤_, _<_}
 use native.Mathlib.Omega.{arith}
 use native.Mathlib.Nat.{le-refl}
 use native.Mathlib.Decide.{ℕ-discrete, decLe}
-use native.Mathlib.Numerals.{add-one}
 use lib.Dec.{T, T-not, not-T}
-use lib.ListN.{length, getD, drop, drop-of-length-le}
-use lib.Seq.{drop-cons}
-use Rattle.plane.proofs.Tests.{T-and, T-or, not-or}
 use Rattle.plane.specs.Lists.{In, any, all, keep, flat, countFrom, upTo}
+use Rattle.plane.proofs.Tests.{T-and, T-or, not-or}
 
 -- ---- membership
 
@@ -162,22 +159,3 @@ least-member {A} g xs c h = let r = go xs c in (r .0, here r.0 (r .1), r .3)
             down : (a : A) → (a ≡ y) ⊎ In ys a → g (r .0) ≤ g a
             down a (inl e) = subst (λ z. g (r .0) ≤ g z) (sym e) (omega arith)
             down a (inr k) = r .3 a k
-
--- ---- a loop over a slice that asks a test: what is left to ask, from place i on
-
-pub any-hit : (f : ℕ → Bool) (l : List ℕ) (i : ℕ) → i < length l → T (f (getD l i 0)) → any f (drop i l) ≡ true
-any-hit f l i h t = ap (any f) (drop-cons l i 0 h) ∙ go (f (getD l i 0)) t
-  where
-    go : (b : Bool) → T b → (b || any f (drop (suc i) l)) ≡ true
-    go true t = refl
-    go false t = absurd t
-
-pub any-miss : (f : ℕ → Bool) (l : List ℕ) (i : ℕ) → i < length l → T (not (f (getD l i 0))) → any f (drop i l) ≡ any f (drop (i + 1) l)
-any-miss f l i h t = ap (any f) (drop-cons l i 0 h) ∙ go (f (getD l i 0)) t ∙ ap (λ n. any f (drop n l)) (sym (add-one i))
-  where
-    go : (b : Bool) → T (not b) → (b || any f (drop (suc i) l)) ≡ any f (drop (suc i) l)
-    go true t = absurd t
-    go false t = refl
-
-pub any-end : (f : ℕ → Bool) (l : List ℕ) (i : ℕ) → length l ≤ i → any f (drop i l) ≡ false
-any-end f l i h = ap (any f) (drop-of-length-le l h)

@@ -9,7 +9,7 @@ use native.Mathlib.Nat.{pow-suc}
 use lib.Bits.{bitOr}
 use lib.ListN.{getD}
 use Rattle.rows.specs.Cells.{Cells, At, bit}
-use Rattle.rows.specs.Leaves.{None, Some, FirstOf, LastOf, Columns, row, column}
+use Rattle.rows.specs.Leaves.{NoCell, SomeCell, FirstOf, LastOf, Columns, row, column}
 use Rattle.rows.proofs.RowBits.{bit-shr, no-bit}
 use Rattle.rows.proofs.Fill.{below-or}
 use Rattle.rows.proofs.Shifts.{or-on, on-or-l, on-or-r}
@@ -95,7 +95,7 @@ module _ (a : List ℕ) (r : ℕ) (w : Rows16 a) (p : Columns a 16 r) where
   word-has : (x y : ℕ) → At a x y → bit r x ≡ 1
   word-has x y h = p .from x y (in-y a w x y h) h
 
-  word-none : None (AtWord r) → None (At a)
+  word-none : NoCell (AtWord r) → NoCell (At a)
   word-none f = record { no = λ x y h. f .no x y (word-has x y h) }
 
   -- what the row of all columns says of its bits, the rows say of their columns
@@ -112,8 +112,8 @@ module _ (a : List ℕ) (r : ℕ) (w : Rows16 a) (p : Columns a 16 r) where
       h
 
 -- ---- no cell at all
-pub first-none : (a : List ℕ) (n : ℕ) → Rows16 a → FirstOf row (At a) n → n ≡ 16 → None (At a)
+pub first-none : (a : List ℕ) (n : ℕ) → Rows16 a → FirstOf row (At a) n → n ≡ 16 → NoCell (At a)
 first-none a n w h e = ⊎-elim (λ l. absurd (let q = in-y a w (l .x) (l .y) (l .cell) in omega (arith, l .at))) (λ f. f .0) h
 
-pub first-some : (X : Cells) (n : ℕ) → FirstOf row X n → (n ≡ 16 → ⊥) → Some X
+pub first-some : (X : Cells) (n : ℕ) → FirstOf row X n → (n ≡ 16 → ⊥) → SomeCell X
 first-some X n h f = ⊎-elim (λ l. record { x = l .x; y = l .y; cell = l .cell }) (λ g. absurd (f (g .1))) h

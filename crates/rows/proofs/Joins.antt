@@ -6,7 +6,7 @@ use Prim.Native.Nat.{ℕ, _+_, _≤_}
 use native.Mathlib.Omega.{arith}
 use lib.ListN.{replicate, getD-replicate}
 use Rattle.rows.specs.Cells.{Same, At, bit}
-use Rattle.rows.specs.Leaves.{Onto, Under, Either, Lowered, Moved}
+use Rattle.rows.specs.Leaves.{Onto, Under, Either, Lowered, MovedCell}
 use Rattle.rows.proofs.RowBits.{no-bit}
 use Rattle.rows.proofs.Sums.{Rows16, in-x, in-y, zero-at, ones16}
 
@@ -22,7 +22,7 @@ onto-joined a b r w o = record {
       h;
 }
   where
-    back : (x y : ℕ) → Moved (At b) 0 0 x y → At b x y
+    back : (x y : ℕ) → MovedCell (At b) 0 0 x y → At b x y
     back x y m =
         let e : m .x1 ≡ x = omega (arith, m .at-x) in
         let f : m .y1 ≡ y = omega (arith, m .at-y) in

@@ -6,7 +6,7 @@ use Prim.Native.Nat.{ℕ, _+_, _≤_, _<_}
 use Rattle.rows.specs.Cells.{Cells, Sum, Residue, At, bit, Greatest}
 
 -- (x, y) is a cell of X moved by (i, j)
-pub record Moved (X : Cells) (i j x y : ℕ) : Type 0 where
+pub record MovedCell (X : Cells) (i j x y : ℕ) : Type 0 where
   pub x1 : ℕ
   pub y1 : ℕ
   pub was : X x1 y1
@@ -15,7 +15,7 @@ pub record Moved (X : Cells) (i j x y : ℕ) : Type 0 where
 
 -- r is z with a, moved by (i, j), put onto it, cut to the window
 pub record Onto (z a : List ℕ) (i j : ℕ) (r : List ℕ) : Type 0 where
-  pub to : (x y : ℕ) → At r x y → At z x y ⊎ Moved (At a) i j x y
+  pub to : (x y : ℕ) → At r x y → At z x y ⊎ MovedCell (At a) i j x y
   pub kept : (x y : ℕ) → At z x y → At r x y
   pub from : (x y : ℕ) → At a x y → x + i < 16 → y + j < 16 → At r (x + i) (y + j)
 
@@ -37,7 +37,7 @@ pub record ResidueOf (t b r : List ℕ) : Type 0 where
 
 -- r is z with a, moved by (i, j) for each bit i < n of b, put onto it
 pub record RowSum (z a : List ℕ) (b j n : ℕ) (r : List ℕ) : Type 0 where
-  pub to : (x y : ℕ) → At r x y → At z x y ⊎ ((i : ℕ) × ((bit b i ≡ 1) × Moved (At a) i j x y))
+  pub to : (x y : ℕ) → At r x y → At z x y ⊎ ((i : ℕ) × ((bit b i ≡ 1) × MovedCell (At a) i j x y))
   pub kept : (x y : ℕ) → At z x y → At r x y
   pub from : (i : ℕ) → i < n → bit b i ≡ 1 → (x y : ℕ) → At a x y → x + i < 16 → y + j < 16 → At r (x + i) (y + j)
 
@@ -66,11 +66,11 @@ abbrev pub Lowered : Cells → ℕ → ℕ → Cells
 Lowered X i j x y = X (x + i) (y + j)
 
 -- X has no cell
-pub record None (X : Cells) : Type 0 where
+pub record NoCell (X : Cells) : Type 0 where
   pub no : (x y : ℕ) → X x y → ⊥
 
 -- X has a cell
-pub record Some (X : Cells) : Type 0 where
+pub record SomeCell (X : Cells) : Type 0 where
   pub x : ℕ
   pub y : ℕ
   pub cell : X x y
@@ -93,11 +93,11 @@ pub record Least (number : ℕ → ℕ → ℕ) (X : Cells) (n : ℕ) : Type 0 w
 
 -- n is the least number of a cell of X, or 16 where X has none
 abbrev pub FirstOf : (ℕ → ℕ → ℕ) → Cells → ℕ → Type 0
-FirstOf number X n = Least number X n ⊎ (None X × (n ≡ 16))
+FirstOf number X n = Least number X n ⊎ (NoCell X × (n ≡ 16))
 
 -- n is the greatest number of a cell of X, or 16 where X has none
 abbrev pub LastOf : (ℕ → ℕ → ℕ) → Cells → ℕ → Type 0
-LastOf number X n = Greatest number X n ⊎ (None X × (n ≡ 16))
+LastOf number X n = Greatest number X n ⊎ (NoCell X × (n ≡ 16))
 
 -- bit x of r is set where a has a cell in column x before row n
 pub record Columns (a : List ℕ) (n r : ℕ) : Type 0 where

@@ -5,7 +5,7 @@ ghost use mathlib.Core.Path.{_≡_};
 ghost use mathlib.Core.Bool.{true, false};
 ghost use Prim.Native.Nat.{_<_, _%_};
 ghost use Rattle.rows.specs.Cells.{Same, At, bit, AtMask};
-ghost use Rattle.rows.specs.Leaves.{Onto, Under, SumOf, ResidueOf, RowSum, RowResidue, Either, Lowered, None, Some, Columns, FirstOf, LastOf, row, column};
+ghost use Rattle.rows.specs.Leaves.{Onto, Under, SumOf, ResidueOf, RowSum, RowResidue, Either, Lowered, NoCell, SomeCell, Columns, FirstOf, LastOf, row, column};
 
 // Whether bit i of a is set.
 fn has(a: u16, i: u32) -> bool
@@ -228,8 +228,8 @@ pub fn last_column(a: [u16; 16]) -> u32
 
 // Whether a has no cell.
 pub fn empty(a: [u16; 16]) -> bool
-    ensures yes { λ r. ⌜ (r ≡ true → None (At a)) ⌝ }
-    ensures no { λ r. ⌜ (r ≡ false → Some (At a)) ⌝ }
+    ensures yes { λ r. ⌜ (r ≡ true → NoCell (At a)) ⌝ }
+    ensures no { λ r. ⌜ (r ≡ false → SomeCell (At a)) ⌝ }
 {
     first_row(a) == 16
 }

@@ -23,7 +23,7 @@ use Rattle.plane.proofs.Tests.{cond-ind, not-or, not-ltb, not-leb, T-and}
 use Rattle.words.specs.Word.{rowY, rowColumns, anchorWord, rowWord, anchorKind, rowKind, wrongKind, extraBit}
 use Rattle.words.proofs.Refusals.{Clear}
 use Rattle.words.proofs.Words.{Fine, anchor-x, anchor-y, row-y, anchor-fine, row-fine}
-use Rattle.shapes.specs.Listed.{eqZ, has, below, leastAnchor, column, rowOf, hasCells, listed}
+use Rattle.shapes.specs.Listed.{eqZ, has, below, leastAnchor, columnSet, rowOf, hasCells, listed}
 use Rattle.shapes.specs.Shape.{anchor, rows, rowCells, shapeCells, shapePoints, emptyRow, notRising, shapeTests, outOfRange, tooFar}
 
 -- ---- membership that is computed
@@ -199,7 +199,7 @@ module _ (A : List Point) (fit : T (not (outOfRange A))) where
   anchor-back = λ i. (anchor-x (a .0) (a .1) (small-a .0) i, anchor-y (a .0) (a .1) (small-a .0) (small-a .1) i)
 
   row-back : (y : ℕ) → y < 16 → rowY (row y) ≡ y
-  row-back y h = row-y y (packed (column A a y) 0 16) h (packed-below (column A a y) 0 16)
+  row-back y h = row-y y (packed (columnSet A a y) 0 16) h (packed-below (columnSet A a y) 0 16)
 
   -- the rows, one by one
   row-in : (w : ℕ) → In (rows (listed A)) w ↔ ((y : ℕ) × (y < 16) × T (hasCells A a y) × (w ≡ row y))
@@ -219,15 +219,15 @@ module _ (A : List Point) (fit : T (not (outOfRange A))) where
         let t = row-in (s .0) .0 (s .1) in
         let y = t .0 in
         let u = In-map (λ x. (x, rowY (s .0))) (rowColumns (s .0)) c .0 (s .2) in
-        let v = row-columns (column A a y) y (u .0) .0 (subst (λ w. In (rowColumns w) (u .0)) (t .3) (u .1)) in
+        let v = row-columns (columnSet A a y) y (u .0) .0 (subst (λ w. In (rowColumns w) (u .0)) (t .3) (u .1)) in
         let e : c ≡ (u .0, y) = u .2 ∙ ap (λ w. (u .0, rowY w)) (t .3) ∙ ap (λ k. (u .0, k)) (row-back y (t .1)) in
         subst (λ z. (z .0 < 16) × (z .1 < 16) × In A (point z -ᵖ point a)) (sym e) (v .0, t .1, has-in A (point (u .0, y) -ᵖ point a) .0 (v .1)),
     λ h. let x = c .0 in
         let y = c .1 in
-        let b : T (column A a y x) = has-in A (point c -ᵖ point a) .1 (h .2) in
-        let full = In-any (column A a y) (upTo 16) .1 (x, In-upTo 16 x (h .0), b) in
+        let b : T (columnSet A a y x) = has-in A (point c -ᵖ point a) .1 (h .2) in
+        let full = In-any (columnSet A a y) (upTo 16) .1 (x, In-upTo 16 x (h .0), b) in
         let e : c ≡ (x, rowY (row y)) = ap (λ k. (x, k)) (sym (row-back y (h .1))) in
-        let at = In-map (λ k. (k, rowY (row y))) (rowColumns (row y)) c .1 (x, row-columns (column A a y) y x .1 (h .0, b), e) in
+        let at = In-map (λ k. (k, rowY (row y))) (rowColumns (row y)) c .1 (x, row-columns (columnSet A a y) y x .1 (h .0, b), e) in
         In-flat rowCells (rows (listed A)) c .1 (row y, row-in (row y) .1 (y, h .1, full, refl), at),
   )
 
@@ -260,13 +260,13 @@ module _ (A : List Point) (fit : T (not (outOfRange A))) where
   row-is : (w : ℕ) → In (rows (listed A)) w → Fine rowKind w
   row-is w h =
       let r = row-in w .0 h in
-      let b = column A a (r .0) in
+      let b = columnSet A a (r .0) in
       subst (Fine rowKind) (sym (r .3)) (row-fine (r .0) (packed b 0 16) (r .1) (packed-below b 0 16))
 
   row-full : (w : ℕ) → In (rows (listed A)) w → T (not (emptyRow w))
   row-full w h =
       let r = row-in w .0 h in
-      let b = column A a (r .0) in
+      let b = columnSet A a (r .0) in
       let s = In-any b (upTo 16) .0 (r .2) in
       let c = row-columns b (r .0) (s .0) .1 (upTo-In 16 (s .0) (s .1), s .2) in
       let l = some-length (rowColumns w) (s .0) (subst (λ v. In (rowColumns v) (s .0)) (sym (r .3)) c) in

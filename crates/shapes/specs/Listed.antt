@@ -31,15 +31,15 @@ unfolding least
 leastAnchor A = (below (corner A .0), below (corner A .1))
 
 -- column x of row y is set, where the anchor is a
-abbrev pub column : List Point → Cell → ℕ → ℕ → Bool
-column A a y x = has A (point (x, y) -ᵖ point a)
+abbrev pub columnSet : List Point → Cell → ℕ → ℕ → Bool
+columnSet A a y x = has A (point (x, y) -ᵖ point a)
 
 -- row y, and whether it has a column
 abbrev pub rowOf : List Point → Cell → ℕ → ℕ
-rowOf A a y = rowWord y (packed (column A a y) 0 16)
+rowOf A a y = rowWord y (packed (columnSet A a y) 0 16)
 
 abbrev pub hasCells : List Point → Cell → ℕ → Bool
-hasCells A a y = any (column A a y) (upTo 16)
+hasCells A a y = any (columnSet A a y) (upTo 16)
 
 -- one anchor and then the non-empty rows, y rising
 unfoldable pub listed : List Point → List ℕ
