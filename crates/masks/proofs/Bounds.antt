@@ -86,6 +86,13 @@ total-bounds (m ∷ ms) t =
     let b = total-bounds ms (u .1) in
     (omega arith, omega arith, omega arith)
 
+-- a set with a plan has the extents of the plan
+pub plan-extent : (axis : Point → ℤ) → Adds axis → axis origin ≡ pos 0 → (S : PointSet) (d : Point) (ms : List ℕ) → PlanOf stage S d ms
+    → Extent axis S (total (along axis) ms)
+plan-extent axis adds z S d ms P =
+    extent-same axis (moved d (In (sumOf ms))) S (total (along axis) ms) (≐-sym (P .sum))
+    (extent-moved axis adds d (In (sumOf ms)) (total (along axis) ms) (sum-extent axis adds z ms (P .stages)))
+
 -- ---- how many stages a plan has
 
 module _ (S : PointSet) (w h : ℕ) (W : Extent x-of S w) (H : Extent y-of S h) where
@@ -94,10 +101,7 @@ module _ (S : PointSet) (w h : ℕ) (W : Extent x-of S w) (H : Extent y-of S h) 
   plan-extents d ms P = (one x-of x-adds refl w W, one y-of y-adds refl h H)
     where
       one : (axis : Point → ℤ) → Adds axis → axis origin ≡ pos 0 → (n : ℕ) → Extent axis S n → n ≡ total (along axis) ms
-      one axis adds z n E =
-          extent-once axis S n (total (along axis) ms) E
-          (extent-same axis (moved d (In (sumOf ms))) S (total (along axis) ms) (≐-sym (P .sum))
-          (extent-moved axis adds d (In (sumOf ms)) (total (along axis) ms) (sum-extent axis adds z ms (P .stages))))
+      one axis adds z n E = extent-once axis S n (total (along axis) ms) E (plan-extent axis adds z S d ms P)
 
   -- at most w + h stages, and at least half the greater extent, rounded up
   pub plan-bounds : (d : Point) (ms : List ℕ) → PlanOf stage S d ms → (length ms ≤ w + h) × ((max w h + 1) / 2 ≤ length ms)

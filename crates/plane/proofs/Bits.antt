@@ -1,14 +1,16 @@
 -- The bits of a packed number are those that it was packed from, whatever stands above them.
 use mathlib.Core.Path.{_≡_, refl, sym, _∙_, ap, subst}
-use mathlib.Core.Logic.{_↔_}
+use mathlib.Core.Logic.{_↔_, inl}
+use mathlib.Core.List.{List, [], _∷_}
 use mathlib.Core.Bool.{Bool, true, false, cond}
-use Prim.Native.Nat.{ℕ, zero, suc, _+_, _*_, _/_, _%_, _^_, _<_}
+use Prim.Native.Nat.{ℕ, zero, suc, _+_, _*_, _/_, _%_, _^_, _<_, zero-le, suc-le-suc}
 use native.Mathlib.Omega.{arith}
-use native.Mathlib.Nat.{pow-succ', div-div-eq-div-mul, add-suc, suc-add, le-of-suc-le-suc, not-suc-le-zero, add-zero, zero-add, mul-assoc}
+use native.Mathlib.Nat.{div-add-mod, mul-mod-right, zero-div, pow-succ', div-div-eq-div-mul, add-suc, suc-add, le-of-suc-le-suc, not-suc-le-zero, add-zero, zero-add, mul-assoc}
 use lib.Dec.{T, eqb, eqb→eq}
+use lib.ListN.{length}
 use Rattle.plane.specs.Lists.{In, bits, upTo, packed}
 use Rattle.plane.proofs.Member.{In-keep, upTo-In, In-upTo}
-use Rattle.plane.proofs.Tests.{eq-eqb}
+use Rattle.plane.proofs.Tests.{eq-eqb, same-test}
 
 -- one bit more below
 half : (c : Bool) (r : ℕ) → (cond c 1 0 + 2 * r) / 2 ≡ r
@@ -81,3 +83,57 @@ bits-packed b n q x = (
 
     digit : x < n → w / 2 ^ x % 2 ≡ cond (b x) 1 0
     digit l = above n x q (packed b 0 n) l ∙ packed-digit b x 0 n l ∙ ap (λ j. cond (b j) 1 0) (zero-add x)
+
+-- ---- numbers without bits
+
+-- where the lowest n bits are 0, so is what they make
+low-zero : (n w : ℕ) → ((k : ℕ) → k < n → w / 2 ^ k % 2 ≡ 0) → w % 2 ^ n ≡ 0
+low-zero zero w h = omega arith
+low-zero (suc n) w h = go (low-zero n (w / 2) (λ k l. ap (λ x. x % 2) (sym (halves w k)) ∙ h (suc k) (suc-le-suc l)))
+  where
+    q : ℕ
+    q = w / 2 / 2 ^ n
+
+    double : (w m r p : ℕ) → w / 1 % 2 ≡ 0 → m + r ≡ w / 2 → r ≡ 0 → p ≡ 2 * m → w ≡ p
+    double w m r p a b c d = omega arith
+
+    -- w is q times 2 ^ (n + 1)
+    go : w / 2 % 2 ^ n ≡ 0 → w % 2 ^ suc n ≡ 0
+    go z =
+        ap (λ x. x % 2 ^ suc n) (double w (2 ^ n * q) (w / 2 % 2 ^ n) (2 ^ suc n * q) (h 0 (suc-le-suc zero-le)) (div-add-mod (w / 2) (2 ^ n)) z (even n q))
+        ∙ mul-mod-right (2 ^ suc n) q
+
+-- a number has no bit below n exactly where its lowest n bits make 0
+pub no-bits : (n w : ℕ) → eqb (length (bits n w)) 0 ≡ eqb (w % 2 ^ n) 0
+no-bits n w = same-test (eqb (length (bits n w)) 0) (eqb (w % 2 ^ n) 0) to from
+  where
+    set : ℕ → Bool
+    set k = eqb (w / 2 ^ k % 2) 1
+
+    even-digit : (x : ℕ) → ¬ (x % 2 ≡ 1) → x % 2 ≡ 0
+    even-digit x h = omega arith
+
+    none : (xs : List ℕ) → ((x : ℕ) → In xs x → ⊥) → length xs ≡ 0
+    none [] h = refl
+    none (x ∷ xs) h = absurd (h x (inl refl))
+
+    some : (xs : List ℕ) (x : ℕ) → length xs ≡ 0 → In xs x → ⊥
+    some (y ∷ xs) x e h = omega arith
+
+    to : T (eqb (length (bits n w)) 0) → T (eqb (w % 2 ^ n) 0)
+    to t = eq-eqb (low-zero n w (λ k l. even-digit (w / 2 ^ k) (λ e. some (bits n w) k (eqb→eq (length (bits n w)) 0 t) (has k l e))))
+      where
+        has : (k : ℕ) → k < n → w / 2 ^ k % 2 ≡ 1 → In (bits n w) k
+        has k l e = In-keep set (upTo n) k .1 (In-upTo n k l, eq-eqb e)
+
+    from : T (eqb (w % 2 ^ n) 0) → T (eqb (length (bits n w)) 0)
+    from t = eq-eqb (none (bits n w) (λ k h. let r = In-keep set (upTo n) k .0 h in clear k (upTo-In n k (r .0)) (eqb→eq (w / 2 ^ k % 2) 1 (r .1))))
+      where
+        split : w ≡ 2 ^ n * (w / 2 ^ n) + 0
+        split = sym (div-add-mod w (2 ^ n)) ∙ ap (λ x. 2 ^ n * (w / 2 ^ n) + x) (eqb→eq (w % 2 ^ n) 0 t)
+
+        clear : (k : ℕ) → k < n → w / 2 ^ k % 2 ≡ 1 → ⊥
+        clear k l e =
+            let z : w / 2 ^ k % 2 ≡ 0 = ap (λ x. x / 2 ^ k % 2) split ∙ above n k (w / 2 ^ n) 0 l ∙ ap (λ x. x % 2) (zero-div (2 ^ k)) in
+            let o : _≡_ {A = ℕ} 0 1 = sym z ∙ e in
+            omega arith

@@ -1,14 +1,17 @@
 -- Membership in lists, and tests over all members of a list, each by induction on the list.
-use mathlib.Core.Path.{_≡_, refl, sym, subst}
+use mathlib.Core.Path.{_≡_, refl, sym, _∙_, ap, ap₂, subst}
 use mathlib.Core.Logic.{_↔_, _⊎_, inl, inr, Iff·trans}
-use mathlib.Core.Bool.{Bool, true, false, not, cond}
+use mathlib.Core.Bool.{Bool, true, false, not, cond, _&&_, _||_}
 use mathlib.Core.List.{List, [], _∷_, _++_, map}
-use Prim.Native.Nat.{ℕ, zero, suc, _+_, _≤_, _<_}
+use Prim.Native.Nat.{ℕ, zero, suc, _+_, _-_, _≤_, _<_}
 use native.Mathlib.Omega.{arith}
 use native.Mathlib.Nat.{le-refl}
 use native.Mathlib.Decide.{ℕ-discrete, decLe}
+use native.Mathlib.Numerals.{add-one}
 use lib.Dec.{T, T-not, not-T}
-use Rattle.plane.specs.Lists.{In, any, all, keep, flat, countFrom, upTo}
+use lib.ListN.{length, getD, drop, length-drop, drop-of-length-le}
+use lib.Seq.{drop-cons}
+use Rattle.plane.specs.Lists.{In, any, all, keep, anyNext, flat, countFrom, upTo}
 use Rattle.plane.proofs.Tests.{T-and, T-or, not-or}
 
 -- ---- membership
@@ -159,3 +162,64 @@ least-member {A} g xs c h = let r = go xs c in (r .0, here r.0 (r .1), r .3)
             down : (a : A) → (a ≡ y) ⊎ In ys a → g (r .0) ≤ g a
             down a (inl e) = subst (λ z. g (r .0) ≤ g z) (sym e) (omega arith)
             down a (inr k) = r .3 a k
+
+-- ---- a loop that tries each place of a list: what is left to try, from place i on
+
+module _ {A : Type 0} (l : List A) (i : ℕ) (d : A) where
+  pub any-hit : (f : A → Bool) → i < length l → f (getD l i d) ≡ true → any f (drop i l) ≡ true
+  any-hit f h e = ap (any f) (drop-cons l i d h) ∙ ap (λ b. b || any f (drop (suc i) l)) e
+
+  pub any-miss : (f : A → Bool) → i < length l → f (getD l i d) ≡ false → any f (drop i l) ≡ any f (drop (i + 1) l)
+  any-miss f h e = ap (any f) (drop-cons l i d h) ∙ ap (λ b. b || any f (drop (suc i) l)) e ∙ ap (λ n. any f (drop n l)) (sym (add-one i))
+
+pub any-end : {A : Type 0} (l : List A) (i : ℕ) (f : A → Bool) → length l ≤ i → any f (drop i l) ≡ false
+any-end l i f h = ap (any f) (drop-of-length-le l h)
+
+-- the same of neighbours: place i and the place before it
+module _ {A : Type 0} (l : List A) (i : ℕ) (d : A) (f : A → A → Bool) (z : 1 ≤ i) (h : i < length l) where
+  -- the two are tried, and then the rest
+  next-one : anyNext f (drop (i - 1) l) ≡ (f (getD l (i - 1) d) (getD l i d) || anyNext f (drop i l))
+  next-one = ap (anyNext f) (first ∙ ap (λ xs. getD l (i - 1) d ∷ xs) second) ∙ ap (λ xs. f (getD l (i - 1) d) (getD l i d) || anyNext f xs) (sym second)
+    where
+      up : suc (i - 1) ≡ i
+      up = omega arith
+
+      first : drop (i - 1) l ≡ getD l (i - 1) d ∷ drop i l
+      first = drop-cons l (i - 1) d (omega arith) ∙ ap (λ n. getD l (i - 1) d ∷ drop n l) up
+
+      second : drop i l ≡ getD l i d ∷ drop (suc i) l
+      second = drop-cons l i d h
+
+  pub next-hit : f (getD l (i - 1) d) (getD l i d) ≡ true → anyNext f (drop (i - 1) l) ≡ true
+  next-hit e = next-one ∙ ap (λ b. b || anyNext f (drop i l)) e
+
+  pub next-miss : f (getD l (i - 1) d) (getD l i d) ≡ false → anyNext f (drop (i - 1) l) ≡ anyNext f (drop (i + 1 - 1) l)
+  next-miss e = let back : i ≡ i + 1 - 1 = omega arith in next-one ∙ ap (λ b. b || anyNext f (drop i l)) e ∙ ap (λ n. anyNext f (drop n l)) back
+
+pub next-end : {A : Type 0} (l : List A) (i : ℕ) (f : A → A → Bool) → length l ≤ i → anyNext f (drop (i - 1) l) ≡ false
+next-end {A} l i f h = short (drop (i - 1) l) (let e = length-drop (i - 1) l in omega arith)
+  where
+    short : (xs : List A) → length xs ≤ 1 → anyNext f xs ≡ false
+    short [] h = refl
+    short (x ∷ []) h = refl
+    short (x ∷ y ∷ xs) h = absurd (omega arith)
+
+-- tests of the results of g are tests of what g was applied to
+module _ {A B : Type 0} (g : A → B) where
+  pub not-all-map : (f : B → Bool) (xs : List A) → not (all f (map g xs)) ≡ any (λ x. not (f (g x))) xs
+  not-all-map f [] = refl
+  not-all-map f (x ∷ xs) = go (f (g x)) ∙ ap (λ b. not (f (g x)) || b) (not-all-map f xs)
+    where
+      go : (b : Bool) → not (b && all f (map g xs)) ≡ (not b || not (all f (map g xs)))
+      go true = refl
+      go false = refl
+
+  pub next-map : (f : B → B → Bool) (xs : List A) → anyNext f (map g xs) ≡ anyNext (λ x y. f (g x) (g y)) xs
+  next-map f [] = refl
+  next-map f (x ∷ []) = refl
+  next-map f (x ∷ y ∷ xs) = ap (λ b. f (g x) (g y) || b) (next-map f (y ∷ xs))
+
+-- tests that agree at each member agree on the list
+pub any-same : {A : Type 0} (f g : A → Bool) (xs : List A) → ((a : A) → f a ≡ g a) → any f xs ≡ any g xs
+any-same f g [] h = refl
+any-same f g (x ∷ xs) h = ap₂ (λ a b. a || b) (h x) (any-same f g xs h)

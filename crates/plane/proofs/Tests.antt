@@ -1,5 +1,5 @@
 -- Tests that are computed: what it says that one holds, or does not.
-use mathlib.Core.Path.{_≡_, refl, subst}
+use mathlib.Core.Path.{_≡_, refl, ap, subst}
 use mathlib.Core.Logic.{_↔_, _⊎_, inl, inr}
 use mathlib.Core.Bool.{Bool, true, false, not, cond, _&&_, _||_}
 use Prim.Native.Nat.{ℕ, _≤_, _<_}
@@ -47,6 +47,13 @@ pub T-false : (b : Bool) → T (not b) → b ≡ false
 T-false true t = absurd t
 T-false false t = refl
 
+-- two tests that follow from each other are the same
+pub same-test : (a b : Bool) → (T a → T b) → (T b → T a) → a ≡ b
+same-test true true f g = refl
+same-test true false f g = absurd (f tt)
+same-test false true f g = absurd (g tt)
+same-test false false f g = refl
+
 -- what holds in both arms of a choice
 pub cond-ind : {A : Type 0} (b : Bool) (x y : A) (P : A → Type 0) → (T b → P x) → (T (not b) → P y) → P (cond b x y)
 cond-ind true x y P f g = f tt
@@ -60,3 +67,17 @@ not-leb m n h = not-T (leb m n) (λ t. let k = leb→le m n t in omega arith)
 
 pub not-ltb : (m n : ℕ) → n ≤ m → T (not (ltb m n))
 not-ltb m n h = not-T (ltb m n) (λ t. let k = ltb→lt m n t in omega arith)
+
+-- ---- tests that are tried in turn
+
+-- where the first fails, the second decides
+pub or-rest : (a b : Bool) → a ≡ false → (a || b) ≡ b
+or-rest a b e = ap (λ x. x || b) e
+
+pub or-first : (a b : Bool) → a ≡ true → (a || b) ≡ true
+or-first a b e = ap (λ x. x || b) e
+
+-- none holds
+pub or-none : (a b : Bool) → (a || b) ≡ false → (a ≡ false) × (b ≡ false)
+or-none true b e = absurd (subst T e tt)
+or-none false b e = (refl, e)

@@ -1,4 +1,4 @@
--- Rows put onto others where they stand, and rows moved towards (0, 0): what is put onto, and what is kept under, by cells.
+-- Rows put onto others where they stand, and rows moved towards (0, 0) or away from it: what is put onto, and what is kept under, by cells.
 use mathlib.Core.Path.{_≡_, sym, ap, subst, _∙_}
 use mathlib.Core.Logic.{_⊎_, inl, inr, ⊎-elim}
 use mathlib.Core.List.{List}
@@ -6,7 +6,7 @@ use Prim.Native.Nat.{ℕ, _+_, _≤_}
 use native.Mathlib.Omega.{arith}
 use lib.ListN.{replicate, getD-replicate}
 use Rattle.rows.specs.Cells.{Same, At, bit}
-use Rattle.rows.specs.Leaves.{Onto, Under, Either, Lowered, MovedCell}
+use Rattle.rows.specs.Leaves.{Onto, Under, Either, Lowered, Raised, MovedCell}
 use Rattle.rows.proofs.RowBits.{no-bit}
 use Rattle.rows.proofs.Sums.{Rows16, in-x, in-y, zero-at, ones16}
 
@@ -45,4 +45,17 @@ lowered-out a i j w o = record {
       let p = in-x a w (x + i) (y + j) h in
       let q = in-y a w (x + i) (y + j) h in
       absurd (⊎-elim (λ v. omega arith) (λ v. omega arith) o);
+}
+
+-- rows put onto none are only moved
+pub onto-raised : (a r : List ℕ) (i j : ℕ) → Onto (replicate 16 0) a i j r → Raised (At a) i j (At r)
+onto-raised a r i j o = record {
+  to = λ x y h. ⊎-elim (λ z. absurd (no-bit x (ap (λ (n : ℕ). bit n x) (sym (zero-at 16 y)) ∙ z))) (λ m. m) (o .to x y h);
+  from = o .from;
+}
+
+pub raised-out : (a : List ℕ) (i j : ℕ) → (16 ≤ i) ⊎ (16 ≤ j) → Raised (At a) i j (At (replicate 16 0))
+raised-out a i j o = record {
+  to = λ x y h. absurd (no-bit x (ap (λ (n : ℕ). bit n x) (sym (zero-at 16 y)) ∙ h));
+  from = λ x y h p q. absurd (⊎-elim (λ v. omega arith) (λ v. omega arith) o);
 }

@@ -1,5 +1,6 @@
--- What a function is told of an array of numbers that it takes by value: its length, and that each element fits.
-use mathlib.Core.List.{List, [], _∷_}
+-- What a function is told of an array of numbers, by value or in a struct's field: its length, and that each element fits.
+use mathlib.Core.Path.{_≡_, refl, ap, subst}
+use mathlib.Core.List.{List, [], _∷_, map}
 use Prim.Native.Nat.{ℕ, zero, suc, _^_, _<_}
 use lib.ListN.{getD}
 use lib.Pow.{pow-pos}
@@ -21,3 +22,11 @@ array-below w (x ∷ xs) (u ∷ us) h (suc i) = array-below w xs us (h .1) i
 -- what is told of a [u16; 16]
 pub rows16 : (xs : List ℕ) (vs : List Val) → shadow (inArray ℕ (UInt w16 .own) 16 xs vs) → Rows16 xs
 rows16 xs vs h = record { rows = h .1 .0 .1; words = array-below w16 xs (h .0) (h .1 .1) }
+
+same-map : (xs : List ℕ) → map (λ (v : ℕ). v) xs ≡ xs
+same-map [] = refl
+same-map (x ∷ xs) = ap (λ (l : List ℕ). x ∷ l) (same-map xs)
+
+-- and of one in a struct's field
+pub field16 : (xs : List ℕ) (vs : List Val) → shadow (inArray ℕ (UInt w16 .own) 16 (map (λ (v : ℕ). v) xs) vs) → Rows16 xs
+field16 xs vs h = subst Rows16 (same-map xs) (rows16 (map (λ (v : ℕ). v) xs) vs h)

@@ -145,7 +145,7 @@ module _ (t b : List ℕ) where
   }
 
 -- ---- the same cells
-bit-same : (p q x : ℕ) → (bit p x ≡ 1 → bit q x ≡ 1) → (bit q x ≡ 1 → bit p x ≡ 1) → bit p x ≡ bit q x
+pub bit-same : (p q x : ℕ) → (bit p x ≡ 1 → bit q x ≡ 1) → (bit q x ≡ 1 → bit p x ≡ 1) → bit p x ≡ bit q x
 bit-same p q x f g = ⊎-elim
     (λ u. ⊎-elim (λ v. omega arith) (λ v. let w : bit p x ≡ 1 = g (omega arith) in omega arith) (below-or (bit q x) 1))
     (λ u. let w : bit q x ≡ 1 = f (omega arith) in omega arith)

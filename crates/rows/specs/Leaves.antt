@@ -65,6 +65,11 @@ Either X Y x y = X x y ⊎ Y x y
 abbrev pub Lowered : Cells → ℕ → ℕ → Cells
 Lowered X i j x y = X (x + i) (y + j)
 
+-- Y has the cells of X moved by (i, j) that lie in the window
+pub record Raised (X : Cells) (i j : ℕ) (Y : Cells) : Type 0 where
+  pub to : (x y : ℕ) → Y x y → MovedCell X i j x y
+  pub from : (x y : ℕ) → X x y → x + i < 16 → y + j < 16 → Y (x + i) (y + j)
+
 -- X has no cell
 pub record NoCell (X : Cells) : Type 0 where
   pub no : (x y : ℕ) → X x y → ⊥

@@ -1,11 +1,11 @@
 // Rows of cells as 16-bit words, [u16; 16]: bit x of row y is the cell (x, y), and the window is the 16 × 16 cells that rows can hold.
-// sum_of and residue_of are ⊕ and ⊖ cut to the window; same and empty test rows; mask_rows, joined and lowered make them; first_row, last_row,
+// sum_of and residue_of are ⊕ and ⊖ cut to the window; same and empty test rows; mask_rows, joined, lowered and raised make them; first_row, last_row,
 // first_column and last_column say how far they reach.
 ghost use mathlib.Core.Path.{_≡_};
 ghost use mathlib.Core.Bool.{true, false};
 ghost use Prim.Native.Nat.{_<_, _%_};
 ghost use Rattle.rows.specs.Cells.{Same, At, bit, AtMask};
-ghost use Rattle.rows.specs.Leaves.{Onto, Under, SumOf, ResidueOf, RowSum, RowResidue, Either, Lowered, NoCell, SomeCell, Columns, FirstOf, LastOf, row, column};
+ghost use Rattle.rows.specs.Leaves.{Onto, Under, SumOf, ResidueOf, RowSum, RowResidue, Either, Lowered, Raised, NoCell, SomeCell, Columns, FirstOf, LastOf, row, column};
 
 // Whether bit i of a is set.
 fn has(a: u16, i: u32) -> bool
@@ -150,6 +150,18 @@ pub fn lowered(a: [u16; 16], i: u32, j: usize) -> [u16; 16]
     if i < 16 {
         if j < 16 {
             return under([65535u16; 16], a, i, j);
+        }
+    }
+    [0u16; 16]
+}
+
+// The cells of a, moved by (i, j); those that would leave the window are dropped.
+pub fn raised(a: [u16; 16], i: u32, j: usize) -> [u16; 16]
+    ensures { λ r. ⌜ Raised (At a) i j (At r) ⌝ }
+{
+    if i < 16 {
+        if j < 16 {
+            return onto([0u16; 16], a, i, j);
         }
     }
     [0u16; 16]

@@ -1,17 +1,38 @@
 -- Numbered tests of which none holds; and that what an answer says is the whole answer.
-use mathlib.Core.Path.{_≡_, refl, sym, _∙_, ap}
+use mathlib.Core.Path.{_≡_, refl, sym, _∙_, ap, subst}
+use mathlib.Core.Logic.{_≢_}
 use mathlib.Core.Bool.{Bool, true, false, not, cond}
 use mathlib.Core.List.{List, [], _∷_, _++_}
-use Prim.Native.Nat.{ℕ}
+use Prim.Native.Nat.{ℕ, zero, suc}
 use native.Mathlib.Omega.{arith}
 use lib.Dec.{T, ltb, eqb, ltb→lt}
+use lib.ListN.{getD, drop}
 use Rattle.plane.specs.Lists.{all}
-use Rattle.plane.proofs.Tests.{T-and}
-use Rattle.words.specs.Ground.{Test, firstOf, numberOf, stated, result, refusal}
+use Rattle.plane.proofs.Tests.{T-and, not-or, eq-eqb}
+use Rattle.words.specs.Ground.{Test, firstOf, numberOf, stated, result, refusal, both, Answered}
 use Rattle.words.specs.declared.Ground.{Ground}
 use Rattle.words.specs.declared.Ground.the-variants.{ListLength, WordKind, ExtraBit, RowOrder, StageCount, PlaceField, StageMask, OutOfRange, OutputLength, NoChain, FrameSize, FrameLength, CellValue, ImageLength}
 use Rattle.words.specs.declared.Answer.{Answer}
 use Rattle.words.specs.declared.Answer.the-variants.{Done, Refused}
+
+-- ---- tests in turn
+
+-- the test at place k, or one that holds where there is none
+abbrev pub testAt : List Test → ℕ → Test
+testAt ts k = getD ts k (0, true)
+
+-- of the tests from place k on the first holds, or it fails
+pub first-holds : (ts : List Test) (k : ℕ) → testAt ts k .1 ≡ true → firstOf (drop k ts) ≡ testAt ts k .0
+first-holds [] zero e = refl
+first-holds [] (suc k) e = refl
+first-holds (t ∷ ts) zero e = ap (λ b. cond b (t .0) (firstOf ts)) e
+first-holds (t ∷ ts) (suc k) e = first-holds ts k e
+
+pub first-fails : (ts : List Test) (k : ℕ) → testAt ts k .1 ≡ false → firstOf (drop k ts) ≡ firstOf (drop (suc k) ts)
+first-fails [] zero e = refl
+first-fails [] (suc k) e = refl
+first-fails (t ∷ ts) zero e = ap (λ b. cond b (t .0) (firstOf ts)) e
+first-fails (t ∷ ts) (suc k) e = first-fails ts k e
 
 -- ---- tests that fail
 
@@ -51,6 +72,49 @@ clear-first (t ∷ ts) us c = (c .0, clear-first ts us (c .1))
 pub clear-last : (ts us : List Test) → Clear (ts ++ us) → Clear us
 clear-last [] us c = c
 clear-last (t ∷ ts) us c = clear-last ts us (c .1)
+
+-- tests that come after others
+pub first-append : (ts us : List Test) → firstOf ts ≢ 0 → firstOf (ts ++ us) ≡ firstOf ts
+first-append [] us n = absurd (n refl)
+first-append (t ∷ ts) us n = go (t .1) n (first-append ts us)
+  where
+    go : (b : Bool) → cond b (t .0) (firstOf ts) ≢ 0 → (firstOf ts ≢ 0 → firstOf (ts ++ us) ≡ firstOf ts) → cond b (t .0) (firstOf (ts ++ us)) ≡ cond b (t .0) (firstOf ts)
+    go true n ih = refl
+    go false n ih = ih n
+
+pub rest-append : (ts us : List Test) → Clear ts → firstOf (ts ++ us) ≡ firstOf us
+rest-append [] us c = refl
+rest-append (t ∷ ts) us c = go (t .1) (c .0) (rest-append ts us (c .1))
+  where
+    go : (b : Bool) → T (not b) → firstOf (ts ++ us) ≡ firstOf us → cond b (t .0) (firstOf (ts ++ us)) ≡ firstOf us
+    go true n e = absurd n
+    go false n e = e
+
+-- two lists of tests, each ground tried over both: none holds where none of either does
+pub both-clear : (ts us : List Test) → Clear (both ts us) → Clear ts × Clear us
+both-clear [] us c = (tt, c)
+both-clear (t ∷ ts) [] c = (c, tt)
+both-clear (t ∷ ts) (u ∷ us) c =
+    let n = not-or (t .1) (u .1) .0 (c .0) in
+    let r = both-clear ts us (c .1) in
+    ((n .0, r .0), (n .1, r .1))
+
+-- ---- calls
+
+module _ {Unchanged Work : Type 0} (ts us : List Test) (r : Answer) where
+  -- where one of the first tests holds, a call with more tests refuses with it
+  pub answered-first : firstOf ts ≢ 0 → stated r ≡ refusal (firstOf ts) → Unchanged → Answered (ts ++ us) r Unchanged Work
+  answered-first n e u = record {
+    refused = λ _. (e ∙ ap refusal (sym (first-append ts us n)), u);
+    done = λ z. absurd (n (sym (first-append ts us n) ∙ z));
+  }
+
+  -- where none of them holds, the rest decide
+  pub answered-rest : Clear ts → Answered us r Unchanged Work → Answered (ts ++ us) r Unchanged Work
+  answered-rest c a = record {
+    refused = λ n. let q = a .refused (λ z. n (rest-append ts us c ∙ z)) in (q .0 ∙ ap refusal (sym (rest-append ts us c)), q .1);
+    done = λ z. a .done (sym (rest-append ts us c) ∙ z);
+  }
 
 -- ---- answers
 
@@ -109,3 +173,10 @@ stated-once r s e = sym (answer-back r) ∙ ap answerOf e ∙ answer-back s
 -- no answer is both a result and a refusal
 pub result-no-refusal : (r : Answer) (n k : ℕ) → stated r ≡ result n → stated r ≡ refusal k → k ≡ 0
 result-no-refusal r n k p q = ap (λ s. s .0) (sym q ∙ p)
+
+-- an answer that says which test holds: a refusal says that one does, any other that none does
+pub refused-some : (g : Ground) (k : ℕ) → stated (Refused g) ≡ refusal k → k ≢ 0
+refused-some g k e z = absurd (subst T (ground-some g) (eq-eqb (ap (λ s. s .0) e ∙ z)))
+
+pub done-none : (n k : ℕ) → stated (Done n) ≡ refusal k → k ≡ 0
+done-none n k e = sym (ap (λ s. s .0) e)
