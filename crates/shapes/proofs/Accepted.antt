@@ -40,7 +40,7 @@ far-abs n (pos m) t = ltb→lt n m t
 far-abs n (negsuc m) t = absurd t
 
 -- a number taken from both leaves the difference
-sub-sub : (x y a : ℤ) → (x -ℤ a) -ℤ (y -ℤ a) ≡ x -ℤ y
+pub sub-sub : (x y a : ℤ) → (x -ℤ a) -ℤ (y -ℤ a) ≡ x -ℤ y
 sub-sub x y a =
     ap (λ z. (x -ℤ a) +ℤ z) (negℤ-+ℤ y (negℤ a) ∙ ap (λ z. negℤ y +ℤ z) (negℤ-negℤ a) ∙ +ℤ-comm (negℤ y) a)
     ∙ sym (+ℤ-assoc (x -ℤ a) a (negℤ y)) ∙ ap (λ z. z -ℤ y) (-ℤ-+ℤ-cancel x a)
@@ -84,7 +84,7 @@ cell-small ws c h =
     top w = omega arith
 
 -- no row is empty, so the first has a cell
-some-cell : (ws : List ℕ) → 2 ≤ length ws → T (not (any emptyRow (rows ws))) → (c : Cell) × In (shapeCells ws) c
+pub some-cell : (ws : List ℕ) → 2 ≤ length ws → T (not (any emptyRow (rows ws))) → (c : Cell) × In (shapeCells ws) c
 unfolding shapeCells
 some-cell [] h t = absurd (omega arith)
 some-cell (a ∷ []) h t = absurd (let z : 2 ≤ 1 = h in omega arith)

@@ -1,3 +1,4 @@
+pub mod Range
 pub mod Accepted
 pub mod Listed
 pub mod Written

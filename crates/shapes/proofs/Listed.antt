@@ -2,7 +2,7 @@
 -- read back field by field, and the least anchor puts every point in the window.
 use mathlib.Core.Path.{_≡_, refl, sym, _∙_, ap, ap₂, subst, fun-ext}
 use mathlib.Core.Logic.{_↔_, inl, inr}
-use mathlib.Core.Bool.{Bool, true, false, not, _&&_, _||_}
+use mathlib.Core.Bool.{Bool, not, _&&_, _||_}
 use mathlib.Core.List.{List, [], _∷_, map}
 use Prim.Native.Nat.{ℕ, zero, suc, _+_, _*_, _≤_, _<_, zero-le, suc-le-suc}
 use native.Mathlib.Omega.{arith}
@@ -12,19 +12,20 @@ use lib.Dec.{T, leb, ltb, eqb→eq, eqb-refl, nltb→le, not-T}
 use lib.IntN.{ℤ, pos, negsuc, _+ℤ_, _-ℤ_, +ℤ-idr, +ℤ-negℤ-cancel}
 use lib.Signed.{ltZ, _≤ℤ_}
 use lib.ListN.{length, getD, length-map}
-use Rattle.plane.specs.Extent.{x-of, y-of, width, height, span, least, corner}
+use Rattle.plane.specs.Extent.{x-of, y-of, width, height, span, least}
 use Rattle.plane.specs.Lists.{In, any, anyNext, keep, upTo, countFrom, packed}
 use Rattle.plane.specs.Point.{Point, Cell, point, _+ᵖ_, negᵖ, _-ᵖ_, _≐_}
 use Rattle.plane.proofs.Bits.{packed-below, bits-packed}
-use Rattle.plane.proofs.Extents.{least-same, least-le, least-in, span-far}
+use Rattle.plane.proofs.Extents.{least-le, least-in, span-far}
 use Rattle.plane.proofs.Integer.{≤ℤ-from, +ℤ-less}
 use Rattle.plane.proofs.Member.{any-no, no-any, In-map, In-flat, In-keep, In-any, upTo-In, In-upTo, countFrom-In}
-use Rattle.plane.proofs.Tests.{cond-ind, not-or, not-ltb, not-leb, T-and}
+use Rattle.plane.proofs.Tests.{cond-ind, not-or, not-ltb, not-leb, T-and, same-test}
 use Rattle.words.specs.Word.{rowY, rowColumns, anchorWord, rowWord, anchorKind, rowKind, wrongKind, extraBit}
 use Rattle.words.proofs.Refusals.{Clear}
 use Rattle.words.proofs.Words.{Fine, anchor-x, anchor-y, row-y, anchor-fine, row-fine}
 use Rattle.shapes.specs.Listed.{eqZ, has, below, leastAnchor, columnSet, rowOf, hasCells, listed}
 use Rattle.shapes.specs.Shape.{anchor, rows, rowCells, shapeCells, shapePoints, emptyRow, notRising, shapeTests, outOfRange, tooFar}
+use Rattle.shapes.proofs.Range.{corner-same}
 
 -- ---- membership that is computed
 
@@ -52,23 +53,8 @@ has-in A p = (
 
 -- ---- equal sets of points have equal lists
 
-same-test : (a b : Bool) → (T a → T b) → (T b → T a) → a ≡ b
-same-test true true f g = refl
-same-test true false f g = absurd (f tt)
-same-test false true f g = absurd (g tt)
-same-test false false f g = refl
-
 has-same : (A B : List Point) → In A ≐ In B → has A ≡ has B
 has-same A B e = fun-ext (λ p. same-test (has A p) (has B p) (λ t. has-in B p .1 (e p .0 (has-in A p .0 t))) (λ t. has-in A p .1 (e p .1 (has-in B p .0 t))))
-
-corner-same : (A B : List Point) → In A ≐ In B → corner A ≡ corner B
-corner-same A B e = λ i. (one x-of i, one y-of i)
-  where
-    into : (axis : Point → ℤ) (A B : List Point) → ((p : Point) → In A p → In B p) → (z : ℤ) → In (map axis A) z → In (map axis B) z
-    into axis A B f z h = let r = In-map axis A z .0 h in In-map axis B z .1 (r .0, f (r .0) (r .1), r .2)
-
-    one : (axis : Point → ℤ) → least (map axis A) ≡ least (map axis B)
-    one axis = least-same (map axis A) (map axis B) (λ z. (into axis A B (λ p. e p .0) z, into axis B A (λ p. e p .1) z))
 
 pub listed-same : (A B : List Point) → In A ≐ In B → listed A ≡ listed B
 unfolding listed leastAnchor
@@ -190,7 +176,7 @@ module _ (A : List Point) (fit : T (not (outOfRange A))) where
   abbrev row : ℕ → ℕ
   row y = rowOf A a y
 
-  small-a : (a .0 < 16) × (a .1 < 16)
+  pub small-a : (a .0 < 16) × (a .1 < 16)
   unfolding leastAnchor
   small-a = (suc-le-suc (low-anchor x-of A (λ p h. near p h .0)), suc-le-suc (low-anchor y-of A (λ p h. near p h .1)))
 

@@ -1,0 +1,145 @@
+-- Stages and their extents by arithmetic on the mask: one test, computed over the 512 masks and carried to each. So ground 7 is tried word by word, and
+-- ground 8 of a plan is decided from the sums of the extents and the place fields.
+use mathlib.Core.Path.{_≡_, refl, sym, _∙_, ap, ap₂, subst}
+use mathlib.Core.Bool.{Bool, true, false, not, cond, _&&_, _||_}
+use mathlib.Core.Logic.{_⊎_, inl, inr}
+use mathlib.Core.List.{List, [], _∷_, map}
+use Prim.Native.Nat.{ℕ, _+_, _/_, _%_, _≤_, _<_}
+use native.Mathlib.Omega.{arith}
+use native.Mathlib.Numerals.{add-one}
+use lib.Dec.{T, ltb, leb, eqb, eqb→eq}
+use lib.ListN.{length, getD, drop, drop-of-length-le}
+use lib.Seq.{drop-cons}
+use Rattle.plane.specs.Extent.{x-of, y-of}
+use Rattle.plane.specs.Lists.{all, any, anyNext, upTo, In}
+use Rattle.plane.proofs.Extents.{x-adds, y-adds}
+use Rattle.plane.proofs.Member.{each-below, not-all-map, next-map, any-same}
+use Rattle.plane.proofs.Tests.{T-and, T-or, clash}
+use Rattle.words.specs.Word.{placeX, placeY, stageMask}
+use Rattle.masks.specs.Chain.{PlanOf}
+use Rattle.masks.specs.Mask.{stage}
+use Rattle.masks.proofs.Bounds.{along, total, plan-extent, forced}
+use Rattle.masks.proofs.Cells.{stage-below}
+use Rattle.shapes.specs.Plan.{planMasks, planOffset, planPoints, wrongMasks}
+use Rattle.shapes.specs.Shape.{outOfRange}
+use Rattle.shapes.proofs.Range.{range-is, biased-offside}
+use Rattle.shapes.proofs.Written.{plan-itself}
+use Rattle.grounds.specs.Leaves.{noStage, falls, lastRow, lastColumn, reach, extentOf}
+use Rattle.plane.specs.Point.{Point}
+
+-- ---- one mask
+
+agree : Bool → Bool → Bool
+agree true b = b
+agree false b = not b
+
+agree-eq : (a b : Bool) → T (agree a b) → a ≡ b
+unfolding agree
+agree-eq true true t = refl
+agree-eq true false t = absurd t
+agree-eq false true t = absurd t
+agree-eq false false t = refl
+
+-- the test of a stage is right, and a stage's extents are its last column and its last row
+right : ℕ → Bool
+unfolding along stage agree
+right m = agree (not (stage m)) (noStage m) && (not (stage m) || eqb (lastColumn m) (along x-of m) && eqb (lastRow m) (along y-of m))
+
+right-table : T (all right (upTo 512))
+unfolding right
+right-table = tt
+
+pub no-stage-is : (m : ℕ) → m < 512 → not (stage m) ≡ noStage m
+unfolding right
+no-stage-is m h = agree-eq (not (stage m)) (noStage m) (T-and (agree (not (stage m)) (noStage m)) _ .0 (each-below right 512 right-table m h) .0)
+
+pub reach-is : (m : ℕ) → T (stage m) → (reach false m ≡ along x-of m) × (reach true m ≡ along y-of m)
+unfolding right
+reach-is m t = go (T-or (not (stage m)) _ .0 (T-and (agree (not (stage m)) (noStage m)) _ .0 (each-below right 512 right-table m (stage-below m t)) .1))
+  where
+    go : T (not (stage m)) ⊎ T (eqb (lastColumn m) (along x-of m) && eqb (lastRow m) (along y-of m)) → (lastColumn m ≡ along x-of m) × (lastRow m ≡ along y-of m)
+    go (inl n) = absurd (clash (stage m) n t)
+    go (inr a) =
+        let u = T-and (eqb (lastColumn m) (along x-of m)) (eqb (lastRow m) (along y-of m)) .0 a in
+        (eqb→eq (lastColumn m) (along x-of m) (u .0), eqb→eq (lastRow m) (along y-of m) (u .1))
+
+pub reach-small : (down : Bool) (m : ℕ) → reach down m ≤ 2
+reach-small down m = go down
+  where
+    low : (a b : Bool) → cond a 2 (cond b 1 0) ≤ 2
+    low true b = omega arith
+    low false true = omega arith
+    low false false = omega arith
+
+    go : (down : Bool) → reach down m ≤ 2
+    go true = low (leb 64 m) (leb 8 m)
+    go false = low (ltb 0 (m / 4 % 2 + m / 32 % 2 + m / 256 % 2)) (ltb 0 (m / 2 % 2 + m / 16 % 2 + m / 128 % 2))
+
+-- ---- ground 7
+
+-- word by word: some mask is no stage, or some mask is below the one before
+pub masks-tried : (ws : List ℕ) → wrongMasks (planMasks ws) ≡ (any (λ w. noStage (stageMask w)) (drop 2 ws) || anyNext falls (drop 2 ws))
+masks-tried ws = ap₂ (λ a b. a || b) (not-all-map stageMask stage (drop 2 ws) ∙ any-same _ _ (drop 2 ws) (λ w. no-stage-is (stageMask w) (below w)))
+    (next-map stageMask (λ a b. ltb b a) (drop 2 ws))
+  where
+    below : (w : ℕ) → w % 512 < 512
+    below w = omega arith
+
+-- ---- the sums of the extents
+
+-- a loop over the words: one more, and none left
+pub extent-one : (down : Bool) (l : List ℕ) (i : ℕ) → i < length l → extentOf down (drop i l) ≡ reach down (stageMask (getD l i 0)) + extentOf down (drop (i + 1) l)
+extent-one down l i h =
+    ap (extentOf down) (drop-cons l i 0 h) ∙ ap (λ n. reach down (stageMask (getD l i 0)) + extentOf down (drop n l)) (sym (add-one i))
+
+pub extent-none : (down : Bool) (l : List ℕ) (i : ℕ) → length l ≤ i → extentOf down (drop i l) ≡ 0
+extent-none down l i h = ap (extentOf down) (drop-of-length-le l h)
+
+-- of stages, they are the sums of the masks' extents
+extent-is : (ws : List ℕ) → T (all stage (map stageMask ws))
+    → (extentOf false ws ≡ total (along x-of) (map stageMask ws)) × (extentOf true ws ≡ total (along y-of) (map stageMask ws))
+extent-is [] t = (refl, refl)
+extent-is (w ∷ ws) t =
+    let u = T-and (stage (stageMask w)) (all stage (map stageMask ws)) .0 t in
+    let a = reach-is (stageMask w) (u .0) in
+    let b = extent-is ws (u .1) in
+    (ap₂ (λ m n. m + n) (a .0) (b .0), ap₂ (λ m n. m + n) (a .1) (b .1))
+
+-- ---- ground 8
+
+-- an extent is above 15, or the place and the extent are above 30 together
+abbrev pub far : ℕ → ℕ → ℕ → ℕ → Bool
+far w h x y = ltb 15 w || ltb 15 h || (ltb 30 (x + w) || ltb 30 (y + h))
+
+pub range-tried : (ws : List ℕ) → wrongMasks (planMasks ws) ≡ false
+    → outOfRange (planPoints ws) ≡ far (extentOf false (drop 2 ws)) (extentOf true (drop 2 ws)) (placeX (getD ws 1 0)) (placeY (getD ws 1 0))
+range-tried ws t =
+    range-is A d w h (sym (forced A d ms P)) (plan-extent x-of x-adds refl _ d ms P) (plan-extent y-of y-adds refl _ d ms P)
+    ∙ ap₂ (λ a b. ltb 15 w || ltb 15 h || (a || b)) (biased-offside x w) (biased-offside y h) ∙ ap₂ (λ m n. far m n x y) (sym (e .0)) (sym (e .1))
+  where
+    A : List Point
+    A = planPoints ws
+
+    d : Point
+    d = planOffset ws
+
+    ms : List ℕ
+    ms = planMasks ws
+
+    x : ℕ
+    x = placeX (getD ws 1 0)
+
+    y : ℕ
+    y = placeY (getD ws 1 0)
+
+    w : ℕ
+    w = total (along x-of) ms
+
+    h : ℕ
+    h = total (along y-of) ms
+
+    P : PlanOf stage (In A) d ms
+    P = plan-itself ws (subst (λ b. T (not b)) (sym t) tt)
+
+    e : (extentOf false (drop 2 ws) ≡ w) × (extentOf true (drop 2 ws) ≡ h)
+    e = extent-is (drop 2 ws) (P .stages)

@@ -1,0 +1,196 @@
+// Grounds 1 to 3 and 5 to 8 of a plan list: head, place, then the stages.
+use super::lists;
+use words::Answer;
+use words::Ground;
+ghost use mathlib.Core.Path.{_≡_};
+ghost use mathlib.Core.Bool.{false};
+ghost use Prim.Native.Nat.{_≤_};
+ghost use lib.ListN.{length, drop};
+ghost use Rattle.plane.specs.Lists.{any, anyNext};
+ghost use Rattle.words.specs.Ground.{stated, refusal, firstOf};
+ghost use Rattle.words.specs.Word.{stageMask};
+ghost use Rattle.shapes.specs.Shape.{outOfRange};
+ghost use Rattle.shapes.specs.Plan.{planTests, wrongPlanKinds, wrongPlanBits, wrongCount, wrongPlace, wrongMasks, planMasks, planPoints};
+ghost use Rattle.grounds.specs.Leaves.{noStage, falls, reach, extentOf};
+
+// Ground 2: whether the first word is no head, the second no place, or some other no stage.
+pub(crate) fn wrong_kinds(ws: &[u32]) -> bool
+    requires { ⌜ 2 ≤ length (now ws) ⌝ }
+    ensures { λ r. ⌜ r ≡ wrongPlanKinds (now (ws .entry)) ⌝ }
+{
+    if ws[0] / 268435456 != 3 {
+        return true;
+    }
+    if ws[1] / 268435456 != 4 {
+        return true;
+    }
+    lists::wrong_kind(ws, 2, 5)
+}
+
+// Ground 3: a head names 8 bits, a place 16, a stage 9.
+pub(crate) fn extra_bits(ws: &[u32]) -> bool
+    requires { ⌜ 2 ≤ length (now ws) ⌝ }
+    ensures { λ r. ⌜ r ≡ wrongPlanBits (now (ws .entry)) ⌝ }
+{
+    if ws[0] % 268435456 >= 256 {
+        return true;
+    }
+    if ws[1] % 268435456 >= 65536 {
+        return true;
+    }
+    lists::extra_bit(ws, 2, 512)
+}
+
+// Ground 5: whether the head's count isn't the number of words less 2.
+pub(crate) fn wrong_count(ws: &[u32]) -> bool
+    requires { ⌜ 2 ≤ length (now ws) ⌝ }
+    ensures { λ r. ⌜ r ≡ wrongCount (now (ws .entry)) ⌝ }
+{
+    let count = ws[0] % 256;
+    count as usize != ws.len() - 2
+}
+
+// Ground 6: whether a place field is above 30.
+pub(crate) fn wrong_place(ws: &[u32]) -> bool
+    requires { ⌜ 2 ≤ length (now ws) ⌝ }
+    ensures { λ r. ⌜ r ≡ wrongPlace (now (ws .entry)) ⌝ }
+{
+    if ws[1] % 256 > 30 {
+        return true;
+    }
+    ws[1] / 256 % 256 > 30
+}
+
+// Whether a mask is no stage: row 0 or column 0 is empty, or it is the one normal mask of one cell.
+fn no_stage(mask: u32) -> bool
+    ensures { λ r. ⌜ r ≡ noStage mask ⌝ }
+{
+    if mask % 8 == 0 {
+        return true;
+    }
+    if mask % 2 + mask / 8 % 2 + mask / 64 % 2 == 0 {
+        return true;
+    }
+    mask == 1
+}
+
+// Whether some mask is no stage.
+fn some_no_stage(ws: &[u32]) -> bool
+    ensures { λ r. ⌜ r ≡ any (λ w. noStage (stageMask w)) (drop 2 (now (ws .entry))) ⌝ }
+{
+    let mut i: usize = 2;
+    while i < ws.len() {
+        if no_stage(ws[i] % 512) {
+            return true;
+        }
+        i += 1;
+    }
+    false
+}
+
+// Whether some mask is below the mask before.
+fn falling(ws: &[u32]) -> bool
+    ensures { λ r. ⌜ r ≡ anyNext falls (drop 2 (now (ws .entry))) ⌝ }
+{
+    let mut i: usize = 3;
+    while i < ws.len() {
+        if ws[i] % 512 < ws[i - 1] % 512 {
+            return true;
+        }
+        i += 1;
+    }
+    false
+}
+
+// Ground 7: whether a mask is no stage, or is below the mask before.
+pub(crate) fn wrong_masks(ws: &[u32]) -> bool
+    ensures { λ r. ⌜ r ≡ wrongMasks (planMasks (now (ws .entry))) ⌝ }
+{
+    if some_no_stage(ws) {
+        return true;
+    }
+    falling(ws)
+}
+
+// How far a mask goes from 0: its last row with a cell where down, else its last column with one.
+fn reach(mask: u32, down: bool) -> u32
+    ensures { λ r. ⌜ r ≡ reach down mask ⌝ }
+{
+    if down {
+        if mask >= 64 {
+            return 2;
+        }
+        if mask >= 8 {
+            return 1;
+        }
+        return 0;
+    }
+    if mask / 4 % 2 + mask / 32 % 2 + mask / 256 % 2 > 0 {
+        return 2;
+    }
+    if mask / 2 % 2 + mask / 16 % 2 + mask / 128 % 2 > 0 {
+        return 1;
+    }
+    0
+}
+
+// How far the sum of the stages goes from 0: the sum of their reaches.
+fn extent(ws: &[u32], down: bool) -> u32
+    requires { ⌜ length (now ws) ≤ 32 ⌝ }
+    ensures { λ r. ⌜ r ≡ extentOf down (drop 2 (now (ws .entry))) ⌝ }
+{
+    let mut sum: u32 = 0;
+    let mut i: usize = 2;
+    while i < ws.len() {
+        sum += reach(ws[i] % 512, down);
+        i += 1;
+    }
+    sum
+}
+
+// Ground 8, from the extents of the sum and the place; the masks are stages, so each reaches down to 0.
+pub(crate) fn out_of_range(ws: &[u32]) -> bool
+    requires { ⌜ (2 ≤ length (now ws)) × (length (now ws) ≤ 32) × (wrongMasks (planMasks (now ws)) ≡ false) ⌝ }
+    ensures { λ r. ⌜ r ≡ outOfRange (planPoints (now (ws .entry))) ⌝ }
+{
+    let w = extent(ws, false);
+    let h = extent(ws, true);
+    if w > 15 {
+        return true;
+    }
+    if h > 15 {
+        return true;
+    }
+    if ws[1] % 256 + w > 30 {
+        return true;
+    }
+    ws[1] / 256 % 256 + h > 30
+}
+
+// The first ground that holds.
+pub(crate) fn refused(ws: &[u32]) -> Answer
+    ensures { λ r. ⌜ stated r ≡ refusal (firstOf (planTests (now (ws .entry)))) ⌝ }
+{
+    if lists::wrong_length(ws, 2, 32) {
+        return Answer::Refused(Ground::ListLength);
+    }
+    if wrong_kinds(ws) {
+        return Answer::Refused(Ground::WordKind);
+    }
+    if extra_bits(ws) {
+        return Answer::Refused(Ground::ExtraBit);
+    }
+    if wrong_count(ws) {
+        return Answer::Refused(Ground::StageCount);
+    }
+    if wrong_place(ws) {
+        return Answer::Refused(Ground::PlaceField);
+    }
+    if wrong_masks(ws) {
+        return Answer::Refused(Ground::StageMask);
+    }
+    if out_of_range(ws) {
+        return Answer::Refused(Ground::OutOfRange);
+    }
+    Answer::Done(0)
+}

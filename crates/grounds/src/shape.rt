@@ -1,0 +1,89 @@
+// Grounds 1 to 4 of a shape list: one anchor and then its rows.
+use super::lists;
+use words::Answer;
+use words::Ground;
+ghost use mathlib.Core.Path.{_≡_};
+ghost use Prim.Native.Nat.{_≤_};
+ghost use lib.ListN.{length, drop};
+ghost use Rattle.plane.specs.Lists.{any, anyNext};
+ghost use Rattle.words.specs.Ground.{stated, refusal, firstOf};
+ghost use Rattle.shapes.specs.Shape.{shapeTests, wrongShapeKinds, wrongShapeBits, wrongShapeRows, emptyRow, notRising};
+
+// Ground 2: whether the first word is no anchor, or some other no row.
+pub(crate) fn wrong_kinds(ws: &[u32]) -> bool
+    requires { ⌜ 2 ≤ length (now ws) ⌝ }
+    ensures { λ r. ⌜ r ≡ wrongShapeKinds (now (ws .entry)) ⌝ }
+{
+    if ws[0] / 268435456 != 1 {
+        return true;
+    }
+    lists::wrong_kind(ws, 1, 2)
+}
+
+// Ground 3: an anchor names 8 bits, a row 20.
+pub(crate) fn extra_bits(ws: &[u32]) -> bool
+    requires { ⌜ 2 ≤ length (now ws) ⌝ }
+    ensures { λ r. ⌜ r ≡ wrongShapeBits (now (ws .entry)) ⌝ }
+{
+    if ws[0] % 268435456 >= 256 {
+        return true;
+    }
+    lists::extra_bit(ws, 1, 1048576)
+}
+
+// Whether some row has no column.
+fn empty_row(ws: &[u32]) -> bool
+    ensures { λ r. ⌜ r ≡ any emptyRow (drop 1 (now (ws .entry))) ⌝ }
+{
+    let mut i: usize = 1;
+    while i < ws.len() {
+        if ws[i] % 65536 == 0 {
+            return true;
+        }
+        i += 1;
+    }
+    false
+}
+
+// Whether the y of some row isn't above that of the row before.
+fn not_rising(ws: &[u32]) -> bool
+    ensures { λ r. ⌜ r ≡ anyNext notRising (drop 1 (now (ws .entry))) ⌝ }
+{
+    let mut i: usize = 2;
+    while i < ws.len() {
+        if ws[i] / 65536 % 16 <= ws[i - 1] / 65536 % 16 {
+            return true;
+        }
+        i += 1;
+    }
+    false
+}
+
+// Ground 4: whether a row has no column, or its y isn't above the row before.
+pub(crate) fn wrong_rows(ws: &[u32]) -> bool
+    ensures { λ r. ⌜ r ≡ wrongShapeRows (now (ws .entry)) ⌝ }
+{
+    if empty_row(ws) {
+        return true;
+    }
+    not_rising(ws)
+}
+
+// The first ground that holds.
+pub(crate) fn refused(ws: &[u32]) -> Answer
+    ensures { λ r. ⌜ stated r ≡ refusal (firstOf (shapeTests (now (ws .entry)))) ⌝ }
+{
+    if lists::wrong_length(ws, 2, 17) {
+        return Answer::Refused(Ground::ListLength);
+    }
+    if wrong_kinds(ws) {
+        return Answer::Refused(Ground::WordKind);
+    }
+    if extra_bits(ws) {
+        return Answer::Refused(Ground::ExtraBit);
+    }
+    if wrong_rows(ws) {
+        return Answer::Refused(Ground::RowOrder);
+    }
+    Answer::Done(0)
+}
