@@ -1,0 +1,29 @@
+-- A word of the kind holds its fields; one of another kind holds 0 and 0.
+use mathlib.Core.Path.{sym, ap, _∙_}
+use borrow.Author.Needs.{needs}
+use Rattle.plane.specs.Point.{Cell}
+use Rattle.lists.specs.Held.{anchorIn}
+use Rattle.lists.proofs.Fields.{no-anchor}
+use Rattle.lists.proofs.anchor_of.Statement.{statement}
+use Rattle.lists.proofs.anchor_of.Tie as tie
+
+read-requires : tie.Need-read-requires
+read-requires c κs = search needs
+
+enum-known-word : tie.Need-enum-known-word
+enum-known-word c = search needs
+
+returns : tie.Need-returns
+returns c =
+    let k = c .before .before .before in
+    let e = sym (k .read .ensures) ∙ c .before .word .given .1 in
+    (ap (λ v. anchorIn v .0) (sym e), ap (λ v. anchorIn v .1) (sym e))
+
+returns-2 : tie.Need-returns-2
+returns-2 c =
+    let k = c .before in
+    let e = sym (no-anchor (k .read .result) (c .match .keys2)) ∙ ap anchorIn (k .read .ensures) in
+    (ap (λ (p : Cell). p .0) e, ap (λ (p : Cell). p .1) e)
+
+pub anchor-of-spec : {M : Type 1} → statement M
+anchor-of-spec = tie.close (tie.spec read-requires enum-known-word returns returns-2)

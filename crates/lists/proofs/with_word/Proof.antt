@@ -1,0 +1,59 @@
+-- A row word is joined where it stands; a word of another kind has no cells.
+use mathlib.Core.Path.{sym, ap, _∙_}
+use borrow.Author.Needs.{needs}
+use Rattle.rows.proofs.Known.{rows16}
+use Rattle.lists.specs.Held.{cellsIn}
+use Rattle.lists.proofs.Fields.{no-row}
+use Rattle.lists.proofs.Joined.{word-row, word-none}
+use Rattle.lists.proofs.with_word.Statement.{statement}
+use Rattle.lists.proofs.with_word.Tie as tie
+
+read-requires : tie.Need-read-requires
+read-requires c κs = search needs
+
+enum-known-word : tie.Need-enum-known-word
+enum-known-word c = search needs
+
+cast-j : tie.Need-cast-j
+cast-j c = search needs
+
+mul-r : tie.Need-mul-r
+mul-r c = search needs
+
+array-read-r : tie.Need-array-read-r
+array-read-r c = search needs
+
+cast-r : tie.Need-cast-r
+cast-r c = search needs
+
+mul-r-2 : tie.Need-mul-r-2
+mul-r-2 c = search needs
+
+array-write-r : tie.Need-array-write-r
+array-write-r c = search needs
+
+returns : tie.Need-returns
+returns c =
+    let k = c .before .before .before in
+    let st = k .before in
+    word-row (st .args .z) (st .args .w) _ _ (rows16 (st .args .z) _ (st .good .0) .rows) (sym (k .read .ensures) ∙ c .before .word .given .1)
+
+returns-2 : tie.Need-returns-2
+returns-2 c =
+    let k = c .before in
+    word-none (k .before .args .z) (k .before .args .w) (ap cellsIn (sym (k .read .ensures)) ∙ no-row (k .read .result) (c .match .keys2))
+
+pub with-word-spec : {M : Type 1} → statement M
+with-word-spec =
+    tie.close
+    (tie.spec
+    read-requires
+    enum-known-word
+    cast-j
+    mul-r
+    array-read-r
+    cast-r
+    mul-r-2
+    array-write-r
+    returns
+    returns-2)

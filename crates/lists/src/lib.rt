@@ -1,0 +1,136 @@
+// Words into rows of bits and back: the anchor and the cells of a shape list, the place and the sum of a plan list, and the words of a shape list.
+// Any list is read: a word of another kind than its place calls for holds nothing.
+ghost use mathlib.Core.Path.{_≡_};
+ghost use Rattle.words.specs.Read.{wordOf};
+ghost use Rattle.rows.specs.Cells.{Same, At};
+ghost use Rattle.lists.specs.Held.{anchorIn, placeIn, heldAnchor, heldPlace, heldCells, heldMasks};
+ghost use Rattle.lists.specs.Held.{CellsOf, WithWord, WithStage, SumRows, shapeWords, WordsWritten};
+use words::Word;
+
+// Two numbers of a word.
+pub struct Pair {
+    pub x: u32,
+    pub y: u32,
+}
+
+// The numbers of an anchor; 0 and 0 of another word.
+fn anchor_of(w: u32) -> Pair
+    ensures { λ r. ⌜ (r .x ≡ anchorIn (wordOf w) .0) × (r .y ≡ anchorIn (wordOf w) .1) ⌝ }
+{
+    let word = words::read(w);
+    match word {
+        Word::Anchor { ax, ay } => Pair { x: ax, y: ay },
+        _ => Pair { x: 0, y: 0 },
+    }
+}
+
+// The numbers of a place; 0 and 0 of another word.
+fn place_of(w: u32) -> Pair
+    ensures { λ r. ⌜ (r .x ≡ placeIn (wordOf w) .0) × (r .y ≡ placeIn (wordOf w) .1) ⌝ }
+{
+    let word = words::read(w);
+    match word {
+        Word::Place { x, y } => Pair { x: x, y: y },
+        _ => Pair { x: 0, y: 0 },
+    }
+}
+
+// The anchor of a shape list, its first word.
+pub fn read_anchor(ws: &[u32]) -> Pair
+    ensures { λ r. ⌜ (r .x ≡ heldAnchor (now (ws .entry)) .0) × (r .y ≡ heldAnchor (now (ws .entry)) .1) ⌝ }
+{
+    if ws.len() < 1 {
+        return Pair { x: 0, y: 0 };
+    }
+    anchor_of(ws[0])
+}
+
+// The place of a plan list, its second word.
+pub fn read_place(ws: &[u32]) -> Pair
+    ensures { λ r. ⌜ (r .x ≡ heldPlace (now (ws .entry)) .0) × (r .y ≡ heldPlace (now (ws .entry)) .1) ⌝ }
+{
+    if ws.len() < 2 {
+        return Pair { x: 0, y: 0 };
+    }
+    place_of(ws[1])
+}
+
+// The rows z with the cells of the word w. A row may stand twice in a damaged list.
+fn with_word(z: [u16; 16], w: u32) -> [u16; 16]
+    ensures { λ r. ⌜ WithWord z w r ⌝ }
+{
+    let word = words::read(w);
+    match word {
+        Word::Row { y, columns } => {
+            let mut r = z;
+            let j = (y % 16) as usize;
+            r[j] = r[j] | ((columns % 65536) as u16);
+            r
+        }
+        _ => z,
+    }
+}
+
+// The cells of a shape list, whose rows stand from the second word on.
+pub fn read_rows(ws: &[u32]) -> [u16; 16]
+    ensures { λ r. ⌜ Same (At r) (CellsOf (heldCells (now (ws .entry)))) ⌝ }
+{
+    let mut r = [0u16; 16];
+    let mut i: usize = 1;
+    while i < ws.len() {
+        let next = with_word(r, ws[i]);
+        r = next;
+        i += 1;
+    }
+    r
+}
+
+// The sum of the rows z and the mask of the word w.
+fn with_stage(z: [u16; 16], w: u32) -> [u16; 16]
+    ensures { λ r. ⌜ WithStage z w r ⌝ }
+{
+    let word = words::read(w);
+    match word {
+        Word::Stage(m) => {
+            let mask = rows::mask_rows((m % 512) as u16);
+            rows::sum_of(z, mask)
+        }
+        _ => z,
+    }
+}
+
+// The sum of a plan list's stages, which stand from the third word on, cut to the window: from the last to the first, each added to those after it.
+pub fn plan_rows(ws: &[u32]) -> [u16; 16]
+    ensures { λ r. ⌜ SumRows (heldMasks (now (ws .entry))) r ⌝ }
+{
+    let mut r = [0u16; 16];
+    r[0] = 1;
+    let mut i: usize = ws.len();
+    while i > 2 {
+        i -= 1;
+        let next = with_stage(r, ws[i]);
+        r = next;
+    }
+    r
+}
+
+// Writes the shape list of an anchor and rows, where there is room for the longest, and answers its length.
+pub fn write_list(ax: u32, ay: u32, rows: [u16; 16], out: &mut [u32]) -> u32
+    ensures { λ r. ⌜ WordsWritten (shapeWords ax ay rows) (now (out .entry)) r (now (out .exit)) ⌝ }
+{
+    if out.len() < 17 {
+        return 0;
+    }
+    out[0] = 268435456 + (ay % 16) * 16 + ax % 16;
+    let mut n: u32 = 1;
+    let mut y: u32 = 0;
+    while y < 16 {
+        let columns = rows[y as usize] as u32;
+        if columns > 0 {
+            out[n as usize] = 536870912 + y * 65536 + columns;
+            n += 1;
+        }
+        y += 1;
+    }
+    n
+}
