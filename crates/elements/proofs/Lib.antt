@@ -1,0 +1,11 @@
+pub mod Ranges
+pub mod Reaches
+pub mod Signs
+pub mod Stands
+pub mod Made
+pub mod Moving
+pub mod Places
+pub mod Joining
+pub mod Summing
+pub mod Windows
+pub mod Examples
