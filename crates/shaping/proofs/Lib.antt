@@ -1,0 +1,5 @@
+pub mod Reading
+pub mod Turning
+pub mod Writing
+pub mod Calls
+pub mod Tested

@@ -1,0 +1,82 @@
+-- Lists of which one is refused are refused; else the shapes that they stand for are summed and written.
+use mathlib.Core.Path.{refl}
+use borrow.Author.Needs.{needs}
+use Rattle.shaping.proofs.sum_shapes.Statement.{statement}
+use Rattle.shaping.proofs.Tested.{refused-first, no-refusal}
+use Rattle.shaping.proofs.Calls.{made-returned, shapes-clear, each-accepted, list-made, sum-points}
+use Rattle.words.proofs.Refusals.{answered-rest}
+use Rattle.elements.specs.Standing.{pointsOf}
+use Rattle.shapes.specs.Shape.{shapePoints, shapeTests}
+use Rattle.words.specs.Ground.{both}
+use Rattle.shapes.specs.Calls.{summedPoints}
+use Rattle.shaping.proofs.sum_shapes.Tie as tie
+
+shapes-refusal-requires : tie.Need-shapes-refusal-requires
+shapes-refusal-requires c κs = search needs
+
+enum-known-tested : tie.Need-enum-known-tested
+enum-known-tested c = search needs
+
+returns : tie.Need-returns
+returns c =
+    let t = c .before .before .before in
+    let st = t .before .before .before .before in
+    refused-first (both (shapeTests (st .args .ws .now)) (shapeTests (st .args .vs .now))) _ (t .shapes-refusal .result) _ (t .shapes-refusal .ensures) (c .before .tested .given .1) refl
+
+enum-told : tie.Need-enum-told
+enum-told c = search needs
+
+read-shape-requires : tie.Need-read-shape-requires
+read-shape-requires c κs =
+    let t = c .before .before in
+    let st = t .before .before .before .before in
+    each-accepted (st .args .ws .now) (st .args .vs .now) (no-refusal (t .shapes-refusal .result) _ (c .before .match .keys2) (t .shapes-refusal .ensures)) .0
+
+read-shape-requires-2 : tie.Need-read-shape-requires-2
+read-shape-requires-2 c κs =
+    let t = c .before .before .before in
+    let st = t .before .before .before .before in
+    each-accepted (st .args .ws .now) (st .args .vs .now) (no-refusal (t .shapes-refusal .result) _ (c .before .before .match .keys2) (t .shapes-refusal .ensures)) .1
+
+summed-requires : tie.Need-summed-requires
+summed-requires c κs = search needs
+
+write-shape-requires : tie.Need-write-shape-requires
+write-shape-requires c κs =
+    let s = c .before .before .before .read-shape in
+    let t = c .before .before .read-shape2 in
+    made-returned _ (s .ensures .sound, t .ensures .sound) _ (c .before .summed .result) (c .before .summed .ensures)
+
+same-length : tie.Need-same-length
+same-length c = search needs
+
+returns-2 : tie.Need-returns-2
+returns-2 c =
+    let m = c .before .before .before .before .summed in
+    let t = c .before .before .before .before .before .read-shape2 in
+    let s = c .before .before .before .before .before .before .read-shape in
+    let k = c .before .before .before .before .before .before .before .before in
+    let g = k .before .shapes-refusal in
+    let a = k .before .before .before .before .before .args in
+    let ws = a .ws .now in
+    let vs = a .vs .now in
+    let z = no-refusal (g .result) _ (k .match .keys2) (g .ensures) in
+    let w = c .before .before .write-shape in
+    let e = sum-points (pointsOf (s .result)) (pointsOf (t .result)) (shapePoints ws) (shapePoints vs) (s .ensures .points) (t .ensures .points) in
+    answered-rest (both (shapeTests ws) (shapeTests vs)) _ (w .result) (shapes-clear ws vs z)
+    (list-made _ (s .ensures .sound, t .ensures .sound) _ (m .result) (m .ensures) (summedPoints ws vs) (a .out .now) (w .result) _ e (w .ensures))
+
+pub sum-shapes-spec : {M : Type 1} → statement M
+sum-shapes-spec =
+    tie.close
+    (tie.spec
+    shapes-refusal-requires
+    enum-known-tested
+    returns
+    enum-told
+    read-shape-requires
+    read-shape-requires-2
+    summed-requires
+    write-shape-requires
+    same-length
+    returns-2)
