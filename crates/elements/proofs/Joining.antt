@@ -23,7 +23,6 @@ use Rattle.elements.proofs.Stands.{points-of, sound-cell, cells-sound}
 use Rattle.elements.proofs.Places.{at, raised-points}
 use Rattle.plane.proofs.Algebra.{≐-trans, ≐-sym}
 use Rattle.elements.proofs.Made.{made-in}
-use Rattle.shapes.proofs.Range.{range-same}
 
 -- a cell's point in a shape, and its coordinates
 module _ (s : Shape) (w : Rows16 (s .rows)) where
@@ -165,6 +164,4 @@ module _ (a b : Shape) (wa : Rows16 (a .rows)) (wb : Rows16 (b .rows)) (SA : Sou
     }
 
     pub joined-made : Made (Sound a × Sound b) A next
-    joined-made =
-        made-in (Sound a × Sound b) (SA, SB) A next (λ _. (points-next, next-sound)) next
-        (subst (λ b. T (not b)) (range-same (pointsOf next) A points-next) (next-sound .range)) refl
+    joined-made = made-in (Sound a × Sound b) A next (SA, SB) points-next next-sound

@@ -14,11 +14,11 @@ use Rattle.rows.specs.Cells.{At, Points}
 use Rattle.rows.proofs.Sums.{Rows16}
 use Rattle.shapes.specs.Shape.{outOfRange, tooFar}
 use Rattle.elements.specs.declared.Shape.{Shape}
-use Rattle.elements.specs.Standing.{pointsOf, place, Sound, noShape, Made, Along}
+use Rattle.elements.specs.Standing.{pointsOf, place, Sound, noShape, Made, Along, Within}
 use Rattle.elements.proofs.Ranges.{coordinate, range-flat}
 use Rattle.elements.proofs.Signs.{moved-at}
-use Rattle.elements.proofs.Stands.{points-of, sound-cell}
-use Rattle.elements.proofs.Made.{made-kept}
+use Rattle.elements.proofs.Stands.{points-of, sound-cell, cells-sound, sound-within}
+use Rattle.elements.proofs.Made.{made-in, made-far}
 use Rattle.shapes.proofs.Range.{range-same}
 
 module _ (s : Shape) (w : Rows16 (s .rows)) (S : Sound s) (d : Point) (vx vy : ℕ) (X : Along (s .x) (d .0) vx) (Y : Along (s .y) (d .1) vy) where
@@ -74,21 +74,21 @@ module _ (s : Shape) (w : Rows16 (s .rows)) (S : Sound s) (d : Point) (vx vy : �
       let b = sound-cell next w N (u .x) (u .y) (u .cell) in
       (λ e. omega arith, λ e. omega arith)
 
-  pub moved-made : (r : Shape) → (Sound next → r ≡ next) → ((Sound next → ⊥) → r ≡ noShape) → Made (Sound s) A r
-  moved-made r = made-kept (Sound s) S A next low back r
-    where
-      low : T (not (outOfRange A)) → (In (pointsOf next) ≐ In A) × Sound next
-      low t =
-          let n = not-far t in
-          let e = points-next (n .0) (n .1) in
-          (e, record { fits = refl; left = S .left; top = S .top; range = subst (λ b. T (not b)) (sym (range-same (pointsOf next) A e)) t })
+  low : T (not (outOfRange A)) → (In (pointsOf next) ≐ In A) × Sound next
+  low t =
+      let n = not-far t in
+      let e = points-next (n .0) (n .1) in
+      (e, record { fits = refl; left = S .left; top = S .top; range = subst (λ b. T (not b)) (sym (range-same (pointsOf next) A e)) t })
 
-      back : Sound next → T (not (outOfRange A))
-      back N =
-          let f = placed-far N in
-          let p = no-far (coordinate (s .x) +ℤ d .0) (λ t. f .0 (X .far t)) in
-          let q = no-far (coordinate (s .y) +ℤ d .1) (λ t. f .1 (Y .far t)) in
-          subst (λ b. T (not b)) (range-same (pointsOf next) A (points-next p q)) (N .range)
-        where
-          no-far : (z : ℤ) → (T (tooFar z) → ⊥) → T (not (tooFar z))
-          no-far z f = not-T (tooFar z) f
+  -- with the moved place in range it is the new shape
+  pub moved-near : Within (At (s .rows)) vx vy 30 → Made (Sound s) A next
+  moved-near W =
+      let N : Sound next = record { fits = refl; left = S .left; top = S .top; range = cells-sound next w (W .all) } in
+      let f = placed-far N in
+      let p = not-T (tooFar (coordinate (s .x) +ℤ d .0)) (λ t. f .0 (X .far t)) in
+      let q = not-T (tooFar (coordinate (s .y) +ℤ d .1)) (λ t. f .1 (Y .far t)) in
+      made-in (Sound s) A next S (points-next p q) N
+
+  -- and without it there is none
+  pub moved-far : (r : Shape) → (Within (At (s .rows)) vx vy 30 → ⊥) → r ≡ noShape → Made (Sound s) A r
+  moved-far r f e = made-far (Sound s) A r (λ t. f (sound-within next w (low t .1))) e

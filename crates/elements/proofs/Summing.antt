@@ -16,7 +16,7 @@ use Rattle.plane.proofs.Tests.{clash}
 use Rattle.masks.specs.Chain.{sums}
 use Rattle.masks.proofs.Sum.{sums-is}
 use Rattle.rows.specs.Cells.{Sum, At, Points, Greatest}
-use Rattle.rows.specs.Leaves.{SumOf, row, column}
+use Rattle.rows.specs.Leaves.{SumOf, row, column, SomeCell}
 use Rattle.rows.proofs.Bridge.{points-sum, points-same}
 use Rattle.rows.proofs.Sums.{Rows16}
 use Rattle.shapes.specs.Shape.{outOfRange, tooFar}
@@ -24,9 +24,9 @@ use Rattle.shapes.proofs.Range.{range-same}
 use Rattle.elements.specs.declared.Shape.{Shape}
 use Rattle.elements.specs.Standing.{pointsOf, place, Sound, noShape, Made, Within}
 use Rattle.elements.proofs.Ranges.{coordinate, range-flat}
-use Rattle.elements.proofs.Stands.{points-of}
+use Rattle.elements.proofs.Stands.{points-of, cells-sound, sound-within, some}
 use Rattle.elements.proofs.Joining.{cell-in, cell-at}
-use Rattle.elements.proofs.Made.{made-kept}
+use Rattle.elements.proofs.Made.{made-in, made-far}
 
 -- ---- two coordinates
 
@@ -142,27 +142,32 @@ module _ (a b : Shape) (wa : Rows16 (a .rows)) (wb : Rows16 (b .rows)) (SA : Sou
       add : (u v m n : ℕ) → At (a .rows) u v → At (b .rows) m n → At rows (u + m) (v + n)
       add u v m n p q = whole (u + m) (v + n) (record { x1 = u; y1 = v; x2 = m; y2 = n; left = p; right = q; at-x = refl; at-y = refl })
 
-      pub summed-made : (s : Shape) → (Sound next → s ≡ next) → ((Sound next → ⊥) → s ≡ noShape) → Made (Sound a × Sound b) A s
-      summed-made s = made-kept (Sound a × Sound b) (SA, SB) A next low back s
-        where
-          low : T (not (outOfRange A)) → (In (pointsOf next) ≐ In A) × Sound next
-          low t =
-              let p = SA .left in
-              let q = SB .left in
-              let p′ = SA .top in
-              let q′ = SB .top in
-              let e = p .at in
-              let f = q .at in
-              let e′ = p′ .at in
-              let f′ = q′ .at in (
-                points-next,
-                record {
-                  fits = refl;
-                  left = record { x = p .x + q .x; y = p .y + q .y; cell = add (p .x) (p .y) (q .x) (q .y) (p .cell) (q .cell); at = omega arith; all = λ u v h. zero-le };
-                  top = record { x = p′ .x + q′ .x; y = p′ .y + q′ .y; cell = add (p′ .x) (p′ .y) (q′ .x) (q′ .y) (p′ .cell) (q′ .cell); at = omega arith; all = λ u v h. zero-le };
-                  range = subst (λ b. T (not b)) (sym (range-same (pointsOf next) A points-next)) t;
-                },
-              )
+      next-sound : T (not (outOfRange (pointsOf next))) → Sound next
+      next-sound t =
+          let p = SA .left in
+          let q = SB .left in
+          let p′ = SA .top in
+          let q′ = SB .top in
+          let e = p .at in
+          let f = q .at in
+          let e′ = p′ .at in
+          let f′ = q′ .at in
+          record {
+            fits = refl;
+            left = record { x = p .x + q .x; y = p .y + q .y; cell = add (p .x) (p .y) (q .x) (q .y) (p .cell) (q .cell); at = omega arith; all = λ u v h. zero-le };
+            top = record { x = p′ .x + q′ .x; y = p′ .y + q′ .y; cell = add (p′ .x) (p′ .y) (q′ .x) (q′ .y) (p′ .cell) (q′ .cell); at = omega arith; all = λ u v h. zero-le };
+            range = t;
+          }
 
-          back : Sound next → T (not (outOfRange A))
-          back N = subst (λ b. T (not b)) (range-same (pointsOf next) A points-next) (N .range)
+      -- with the place in range it is the new shape
+      pub summed-near : Within (At rows) x y 30 → Made (Sound a × Sound b) A next
+      summed-near N = made-in (Sound a × Sound b) A next (SA, SB) points-next (next-sound (cells-sound next wr (N .all)))
+
+      -- and without it there is none
+      pub summed-far : (s : Shape) → (SomeCell (At rows) → Within (At rows) x y 30 → ⊥) → s ≡ noShape → Made (Sound a × Sound b) A s
+      summed-far s f e = made-far (Sound a × Sound b) A s out e
+        where
+          out : T (not (outOfRange A)) → ⊥
+          out t =
+              let N = next-sound (subst (λ b. T (not b)) (sym (range-same (pointsOf next) A points-next)) t) in
+              f (some (N .top)) (sound-within next wr N)

@@ -1,18 +1,16 @@
 -- A shape in the window of a list: from the cells and the anchor to the value, by moving the cells to both axes; and back, by moving them to where the least
 -- anchor puts them.
-use lib.ListN.{replicate}
 use mathlib.Core.Path.{_≡_, refl, sym, _∙_, ap, subst}
 use mathlib.Core.Logic.{⊎-elim}
-use mathlib.Core.Bool.{true, not}
+use mathlib.Core.Bool.{true}
 use mathlib.Core.List.{List, map}
 use Prim.Native.Nat.{ℕ, _+_, _-_, _≤_, _<_, zero-le}
 use native.Mathlib.Omega.{arith}
-use lib.Dec.{T}
 use lib.IntN.{ℤ, pos, _+ℤ_, +ℤ-idl, +ℤ-comm}
 use lib.Signed.{_≤ℤ_}
 use Rattle.plane.specs.Extent.{x-of, y-of, least, corner}
 use Rattle.plane.specs.Lists.{In}
-use Rattle.plane.specs.Point.{Point, point, _+ᵖ_, _≐_}
+use Rattle.plane.specs.Point.{Point, point, _+ᵖ_, _≐_, Cell}
 use Rattle.plane.proofs.Algebra.{≐-trans, ≐-sym}
 use Rattle.plane.proofs.Extents.{least-at}
 use Rattle.plane.proofs.Integer.{diff-ge, diff-lt, ≤ℤ-to}
@@ -22,7 +20,6 @@ use Rattle.rows.specs.Leaves.{Lowered, Raised, Least, row, column}
 use Rattle.rows.proofs.Fill.{below-or}
 use Rattle.rows.proofs.Sums.{Rows16, in-x, in-y}
 use Rattle.shapes.specs.Listed.{below, leastAnchor}
-use Rattle.shapes.proofs.Range.{range-same}
 use Rattle.elements.specs.declared.Shape.{Shape}
 use Rattle.elements.specs.declared.Window.{Window}
 use Rattle.elements.specs.Standing.{pointsOf, windowPoints, place, Sound, Made, Anchored, InWindow, Within}
@@ -71,8 +68,7 @@ module _ (w : Window) (W : Rows16 (w .rows)) (G : Anchored w) (i j : ℕ) (I : L
   }
 
   pub from-made : Made (Anchored w) A from
-  from-made =
-      made-in (Anchored w) G A from (λ _. (points-from, from-sound)) from (subst (λ b. T (not b)) (range-same (pointsOf from) A points-from) (from-sound .range)) refl
+  from-made = made-in (Anchored w) A from G points-from from-sound
 
 -- the first row and column are in the window
 pub least-x : (rows : List ℕ) (i : ℕ) → Rows16 rows → Least column (At rows) i → i < 16
@@ -122,32 +118,38 @@ module _ (s : Shape) (w : Rows16 (s .rows)) (S : Sound s) where
   unfolding leastAnchor
   anchor-is = (λ t. (sym (below-at (s .x)) t, sym (below-at (s .y)) t)) ∙ ap (λ c. (below (c .0), below (c .1))) (sym corner-is)
 
-  in-window : (rows : List ℕ) → Rows16 rows → Raised (At (s .rows)) (s .x - 15) (s .y - 15) (At rows)
-      → InWindow s (record { ax = 15 - s .x; ay = 15 - s .y; rows = rows })
-  in-window rows wr R = record {
-    anchor = λ _. anchor-is;
-    points = λ _. ≐-trans (window-points rows (15 - s .x, 15 - s .y) wr (omega arith) (omega arith)) (≐-trans here there);
-    none = λ f. absurd (f S);
-  }
+  -- the window has the least anchor, and stands for the shape's points
+  pub into-window : (r : Window) → Rows16 (r .rows) → InWindow s r → ((r .ax, r .ay) ≡ leastAnchor (pointsOf s)) × (In (windowPoints (r .rows) (r .ax, r .ay)) ≐ In (pointsOf s))
+  into-window r wr I = (anchor-at ∙ anchor-is, subst (λ (a : Cell). In (windowPoints (r .rows) a) ≐ In (pointsOf s)) (sym anchor-at) points-are)
     where
+      anchor-at : _≡_ {A = Cell} (r .ax, r .ay) (15 - s .x, 15 - s .y)
+      anchor-at = λ t. (I .ax t, I .ay t)
+
       stays : Within (At (s .rows)) (s .x - 15) (s .y - 15) 15
       stays = record { all = λ u v c. let b = sound-cell s w S u v c in (omega arith, omega arith) }
 
-      here : Points (At rows) (at (15 - (15 - s .x)) (15 - (15 - s .y))) ≐ Points (At (s .rows)) (at (s .x - 15 + (15 - (15 - s .x))) (s .y - 15 + (15 - (15 - s .y))))
-      here = raised-points (At (s .rows)) (At rows) (s .x - 15) (s .y - 15) (15 - (15 - s .x)) (15 - (15 - s .y)) R stays
+      k : ℕ
+      k = 15 - (15 - s .x)
 
-      there : Points (At (s .rows)) (at (s .x - 15 + (15 - (15 - s .x))) (s .y - 15 + (15 - (15 - s .y)))) ≐ In (pointsOf s)
+      l : ℕ
+      l = 15 - (15 - s .y)
+
+      there : Points (At (s .rows)) (at (s .x - 15 + k) (s .y - 15 + l)) ≐ In (pointsOf s)
       there =
-          let ex : s .x - 15 + (15 - (15 - s .x)) ≡ s .x = omega arith in
-          let ey : s .y - 15 + (15 - (15 - s .y)) ≡ s .y = omega arith in
+          let ex : s .x - 15 + k ≡ s .x = omega arith in
+          let ey : s .y - 15 + l ≡ s .y = omega arith in
           subst (λ (d : Point). Points (At (s .rows)) d ≐ In (pointsOf s)) (λ t. (coordinate (sym ex t), coordinate (sym ey t))) (≐-sym (points-of s w))
 
-  pub into-window : (ax ay i j : ℕ) (rows : List ℕ) → ax ≡ 15 - s .x → ay ≡ 15 - s .y → i ≡ s .x - 15 → j ≡ s .y - 15 → Rows16 rows
-      → Raised (At (s .rows)) i j (At rows) → InWindow s (record { ax = ax; ay = ay; rows = rows })
-  into-window ax ay i j rows p q k l wr R =
-      let R′ = subst (λ (n : ℕ). Raised (At (s .rows)) (s .x - 15) n (At rows)) l (subst (λ (n : ℕ). Raised (At (s .rows)) n j (At rows)) k R) in
-      subst (λ (n : ℕ). InWindow s (record { ax = n; ay = ay; rows = rows })) (sym p)
-      (subst (λ (n : ℕ). InWindow s (record { ax = 15 - s .x; ay = n; rows = rows })) (sym q) (in-window rows wr R′))
+      points-are : In (windowPoints (r .rows) (15 - s .x, 15 - s .y)) ≐ In (pointsOf s)
+      points-are =
+          ≐-trans (window-points (r .rows) (15 - s .x, 15 - s .y) wr (omega arith) (omega arith))
+          (≐-trans (raised-points (At (s .rows)) (At (r .rows)) (s .x - 15) (s .y - 15) k l (I .cells) stays) there)
 
-pub no-window : (s : Shape) → (Sound s → ⊥) → InWindow s (record { ax = 0; ay = 0; rows = replicate 16 0 })
-no-window s f = record { anchor = λ S. absurd (f S); points = λ S. absurd (f S); none = λ _. refl }
+-- what the code's numbers say
+pub window-is : (s : Shape) (ax ay i j : ℕ) (rows : List ℕ) → ax ≡ 15 - s .x → ay ≡ 15 - s .y → i ≡ s .x - 15 → j ≡ s .y - 15
+    → Raised (At (s .rows)) i j (At rows) → InWindow s (record { ax = ax; ay = ay; rows = rows })
+window-is s ax ay i j rows p q k l R = record {
+  ax = p;
+  ay = q;
+  cells = subst (λ (n : ℕ). Raised (At (s .rows)) (s .x - 15) n (At rows)) l (subst (λ (n : ℕ). Raised (At (s .rows)) n j (At rows)) k R);
+}

@@ -3,16 +3,15 @@
 use mathlib.Core.Path.{_≡_}
 use mathlib.Core.Bool.{true, false, not}
 use mathlib.Core.List.{List, map}
-use Prim.Native.Nat.{ℕ, _+_, _≤_}
+use Prim.Native.Nat.{ℕ, _+_, _-_, _≤_}
 use lib.Dec.{T}
 use lib.IntN.{ℤ, pos, _+ℤ_, _-ℤ_}
 use lib.ListN.{getD, replicate}
 use Rattle.plane.specs.Lists.{In, flat, bits, upTo}
 use Rattle.plane.specs.Point.{Point, Cell, point, _+ᵖ_, _-ᵖ_, _≐_}
 use Rattle.rows.specs.Cells.{Cells, At}
-use Rattle.rows.specs.Leaves.{Least, SomeCell, row, column}
+use Rattle.rows.specs.Leaves.{Raised, Least, SomeCell, row, column}
 use Rattle.shapes.specs.Shape.{outOfRange, tooFar}
-use Rattle.shapes.specs.Listed.{leastAnchor}
 use Rattle.elements.specs.declared.Shape.{Shape}
 use Rattle.elements.specs.declared.Window.{Window}
 
@@ -66,8 +65,9 @@ pub record Anchored (w : Window) : Type 0 where
   pub in-y : w .ay ≤ 15
   pub some : SomeCell (At (w .rows))
 
--- the shape's cells in the window with the least anchor; none where it is no shape
+-- the shape's cells in the window with the least anchor: a place below 15 is the anchor's, one above 15 moves the cells. That these are the shape's points
+-- and their least anchor is the law `into-window`
 pub record InWindow (s : Shape) (r : Window) : Type 0 where
-  pub anchor : Sound s → (r .ax, r .ay) ≡ leastAnchor (pointsOf s)
-  pub points : Sound s → In (windowPoints (r .rows) (r .ax, r .ay)) ≐ In (pointsOf s)
-  pub none : (Sound s → ⊥) → r ≡ record { ax = 0; ay = 0; rows = replicate 16 0 }
+  pub ax : r .ax ≡ 15 - s .x
+  pub ay : r .ay ≡ 15 - s .y
+  pub cells : Raised (At (s .rows)) (s .x - 15) (s .y - 15) (At (r .rows))

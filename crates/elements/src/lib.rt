@@ -101,17 +101,6 @@ impl Shape {
         within(rows, self.x, self.y as usize, 30)
     }
 
-    // This value where it is a shape; else no shape.
-    fn kept(self) -> Shape
-        ensures whole { λ r. ⌜ (Sound self → r ≡ self) ⌝ }
-        ensures none { λ r. ⌜ ((Sound self → ⊥) → r ≡ noShape) ⌝ }
-    {
-        if self.sound() {
-            return self;
-        }
-        nothing()
-    }
-
     // The shape with dx added to x and dy to y of each point.
     pub fn moved(self, dx: i32, dy: i32) -> Shape
         ensures { λ r. ⌜ Made (Sound self) (map (λ p. p +ᵖ (dx, dy)) (pointsOf self)) r ⌝ }
@@ -120,13 +109,17 @@ impl Shape {
             return nothing();
         }
         let rows = self.rows;
-        let next = Shape {
+        let x = along(self.x, dx);
+        let y = along(self.y, dy);
+        if !within(rows, x, y as usize, 30) {
+            return nothing();
+        }
+        Shape {
             fits: true,
-            x: along(self.x, dx),
-            y: along(self.y, dy),
+            x: x,
+            y: y,
             rows: rows,
-        };
-        next.kept()
+        }
     }
 
     // The shape of the points of both.
@@ -155,17 +148,10 @@ impl Shape {
         sum(self, other)
     }
 
-    // The shape's cells in the window with the least anchor; no cells of what is no shape.
+    // The shape's cells in the window with the least anchor.
     pub fn window(self) -> Window
         ensures { λ r. ⌜ InWindow self r ⌝ }
     {
-        if !self.sound() {
-            return Window {
-                ax: 0,
-                ay: 0,
-                rows: [0u16; 16],
-            };
-        }
         let rows = self.rows;
         Window {
             ax: above(15, self.x),
@@ -246,11 +232,14 @@ fn sum(a: Shape, b: Shape) -> Shape
     if !within(p, rows::last_column(q), rows::last_row(q), 15) {
         return nothing();
     }
-    let next = Shape {
+    let r = rows::sum_of(p, q);
+    if !within(r, x - 15, (y - 15) as usize, 30) {
+        return nothing();
+    }
+    Shape {
         fits: true,
         x: x - 15,
         y: y - 15,
-        rows: rows::sum_of(p, q),
-    };
-    next.kept()
+        rows: r,
+    }
 }

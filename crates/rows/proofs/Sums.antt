@@ -2,9 +2,9 @@
 use mathlib.Core.Path.{_≡_, refl, sym, ap, subst, _∙_}
 use mathlib.Core.Logic.{_⊎_, inl, inr, ⊎-elim}
 use mathlib.Core.List.{List}
-use Prim.Native.Nat.{ℕ, zero, suc, _+_, _-_, _*_, _%_, _^_, _≤_, _<_}
+use Prim.Native.Nat.{ℕ, zero, suc, _+_, _-_, _*_, _/_, _%_, _^_, _≤_, _<_}
 use native.Mathlib.Omega.{arith}
-use native.Mathlib.Nat.{eq-or-lt-of-le, pow-suc}
+use native.Mathlib.Nat.{eq-or-lt-of-le, pow-suc, div-lt-iff-lt-mul}
 use native.Mathlib.Numerals.{add-one}
 use lib.ListN.{length, getD, replicate, getD-replicate, List·getD-eq-default}
 use lib.Pow.{pow-pos, ones-split, high, ones-lt}
@@ -28,6 +28,13 @@ pub in-y : (a : List ℕ) → Rows16 a → (x y : ℕ) → At a x y → y < 16
 in-y a w x y h = ⊎-elim (λ v. v)
     (λ v. absurd (no-bit x (ap (λ (n : ℕ). bit n x) (sym (List·getD-eq-default a 0 (subst (λ (k : ℕ). k ≤ y) (sym (w .rows)) v))) ∙ h)))
     (below-or y 16)
+
+-- a number without bits from n on is below 2 ^ n
+low-of : (b n : ℕ) → b / 2 ^ n ≡ 0 → b < 2 ^ n
+low-of b n e = let l = div-lt-iff-lt-mul (pow-pos n) .0 (less (b / 2 ^ n) e) in omega arith
+  where
+    less : (k : ℕ) → k ≡ 0 → k < 1
+    less k e = omega arith
 
 -- ---- sums
 module _ (z a : List ℕ) (b j : ℕ) where
@@ -53,6 +60,10 @@ module _ (z a : List ℕ) (b j : ℕ) where
         (λ q. p .from i q u x y h v w)
         (last-or i n l);
   }
+
+  -- where no bit is left the sum is done
+  pub row-sum-end : (n : ℕ) (r : List ℕ) → b / 2 ^ n ≡ 0 → RowSum z a b j n r → RowSum z a b j 16 r
+  row-sum-end n r e p = record { to = p .to; kept = p .kept; from = λ i l u. p .from i (bit-in n b i (low-of b n e) u) u }
 
 pub zero-at : (n q : ℕ) → _≡_ {A = ℕ} (getD (replicate n 0) q 0) 0
 zero-at zero q = refl
@@ -109,6 +120,13 @@ module _ (z t : List ℕ) (b j : ℕ) where
         (λ q. p .to x y h i q u)
         (last-or i n l);
     from = λ x y h f. p .from x y h (λ i l. f i (omega arith));
+  }
+
+  pub row-residue-end : (n : ℕ) (r : List ℕ) → n ≤ 16 → b / 2 ^ n ≡ 0 → RowResidue z t b j n r → RowResidue z t b j 16 r
+  row-residue-end n r m e p = record {
+    kept = p .kept;
+    to = λ x y h i l u. p .to x y h i (bit-in n b i (low-of b n e) u) u;
+    from = λ x y h f. p .from x y h (λ i l u. f i (omega arith) u);
   }
 
 -- each bit of 2 ^ (d + 1 + x) - 1 at x is set

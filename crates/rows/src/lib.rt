@@ -48,7 +48,7 @@ fn under(z: [u16; 16], t: [u16; 16], i: u32, j: usize) -> [u16; 16]
     r
 }
 
-// z with the sum of a and the row b, at row j, put onto it.
+// z with the sum of a and the row b, at row j, put onto it; where no bit is left the rest is passed over.
 fn row_sum(z: [u16; 16], a: [u16; 16], b: u16, j: usize) -> [u16; 16]
     requires { ⌜ j < 16 ⌝ }
     ensures { λ r. ⌜ RowSum z a b j 16 r ⌝ }
@@ -56,6 +56,9 @@ fn row_sum(z: [u16; 16], a: [u16; 16], b: u16, j: usize) -> [u16; 16]
     let mut r = z;
     let mut i: u32 = 0;
     while i < 16 {
+        if b >> i == 0 {
+            return r;
+        }
         if has(b, i) {
             let next = onto(r, a, i, j);
             r = next;
@@ -87,6 +90,9 @@ fn row_residue(z: [u16; 16], t: [u16; 16], b: u16, j: usize) -> [u16; 16]
     let mut r = z;
     let mut i: u32 = 0;
     while i < 16 {
+        if b >> i == 0 {
+            return r;
+        }
         if has(b, i) {
             let next = under(r, t, i, j);
             r = next;

@@ -9,7 +9,7 @@ use lib.Dec.{T, ltb}
 use lib.ListN.{length}
 use borrow.Author.Tests.{lt-ltb, le-ltb}
 use Rattle.plane.specs.Lists.{In}
-use Rattle.plane.specs.Point.{Point, Cell, point, negᵖ, _-ᵖ_}
+use Rattle.plane.specs.Point.{Point, Cell, point, negᵖ, _-ᵖ_, _≐_}
 use Rattle.plane.proofs.Member.{In-map}
 use Rattle.words.specs.declared.Answer.the-variants.{Done, Refused}
 use Rattle.words.specs.declared.Ground.the-variants.{OutOfRange, OutputLength}
@@ -19,7 +19,7 @@ use Rattle.rows.proofs.Bridge.{point-once}
 use Rattle.rows.proofs.Fill.{below-or}
 use Rattle.rows.proofs.Sums.{Rows16, in-x, in-y}
 use Rattle.shapes.specs.Calls.{ListAnswered}
-use Rattle.shapes.specs.Listed.{listed}
+use Rattle.shapes.specs.Listed.{listed, leastAnchor}
 use Rattle.shapes.proofs.Listed.{small-a}
 use Rattle.lists.specs.Held.{shapeWords, WordsWritten}
 use Rattle.lists.proofs.Listed.{shape-words}
@@ -28,22 +28,26 @@ use Rattle.elements.specs.declared.Window.{Window}
 use Rattle.elements.specs.Standing.{pointsOf, windowPoints, cellsOf, Sound, InWindow}
 use Rattle.elements.proofs.Stands.{cells-at}
 use Rattle.shaping.specs.Steps.{Returned, writingTests}
+use Rattle.elements.proofs.Windows.{into-window}
 
 -- what is returned and fits is a shape
 pub fits-sound : (s : Shape) → Returned s → s .fits ≡ true → Sound s
 fits-sound s (inl S) e = S
 fits-sound s (inr n) e = absurd (subst T (ap (λ t. t .fits) n) (subst T (sym e) tt))
 
-module _ (s : Shape) (S : Sound s) (w : Window) (W : Rows16 (w .rows)) (I : InWindow s w) where
+module _ (s : Shape) (R : Rows16 (s .rows)) (S : Sound s) (w : Window) (W : Rows16 (w .rows)) (I : InWindow s w) where
+  known : ((w .ax, w .ay) ≡ leastAnchor (pointsOf s)) × (In (windowPoints (w .rows) (w .ax, w .ay)) ≐ In (pointsOf s))
+  known = into-window s R S w W I
+
   abbrev a : Cell
   a = (w .ax, w .ay)
 
   window-cell : (x y : ℕ) → At (w .rows) x y ↔ ((x < 16) × ((y < 16) × In (pointsOf s) (point (x, y) -ᵖ point a)))
   unfolding windowPoints
   window-cell x y = (
-    λ h. let in-list = I .points S (at c) .0 (In-map at (cellsOf (w .rows)) (at c) .1 (c, cells-at (w .rows) W x y .1 h, refl)) in
+    λ h. let in-list = known .1 (at c) .0 (In-map at (cellsOf (w .rows)) (at c) .1 (c, cells-at (w .rows) W x y .1 h, refl)) in
         (in-x (w .rows) W x y h, (in-y (w .rows) W x y h, in-list)),
-    λ h. let r = In-map at (cellsOf (w .rows)) (at c) .0 (I .points S (at c) .1 (h .1 .1)) in
+    λ h. let r = In-map at (cellsOf (w .rows)) (at c) .0 (known .1 (at c) .1 (h .1 .1)) in
         let k = cells-at (w .rows) W (r .0 .0) (r .0 .1) .0 (r .1) in
         let e = point-once x y (r .0 .0) (r .0 .1) (negᵖ (point a)) (r .2) in
         subst (λ (v : ℕ). At (w .rows) x v) (sym (e .1)) (subst (λ (u : ℕ). At (w .rows) u (r .0 .1)) (sym (e .0)) k),
@@ -57,8 +61,8 @@ module _ (s : Shape) (S : Sound s) (w : Window) (W : Rows16 (w .rows)) (I : InWi
 
   pub window-words : shapeWords (w .ax) (w .ay) (w .rows) ≡ listed (pointsOf s)
   window-words =
-      let small = subst (λ (b : Cell). (b .0 < 16) × (b .1 < 16)) (sym (I .anchor S)) (small-a (pointsOf s) (S .range)) in
-      shape-words (pointsOf s) a (w .rows) (I .anchor S) (omega (arith, small .0)) (omega (arith, small .1)) W window-cell
+      let small = subst (λ (b : Cell). (b .0 < 16) × (b .1 < 16)) (sym (known .0)) (small-a (pointsOf s) (S .range)) in
+      shape-words (pointsOf s) a (w .rows) (known .0) (omega (arith, small .0)) (omega (arith, small .1)) W window-cell
 
 -- ---- the answers
 

@@ -1,10 +1,10 @@
--- Places below 15 together, and cells that would leave the window, show that the points are out of range; else the sum is kept where it is a shape.
+-- Places below 15 together, and cells that leave the window or the range, show that the points are out of range; else it is the sum.
 use borrow.Author.Tests.{not-true, not-false}
 use native.Mathlib.Omega.{arith}
 use borrow.Author.Needs.{needs}
 use Rattle.elements.proofs.sum.Statement.{statement}
 use Rattle.elements.proofs.Made.{made-far}
-use Rattle.elements.proofs.Summing.{not-low-x, not-low-y, fits-in, summed-made}
+use Rattle.elements.proofs.Summing.{not-low-x, not-low-y, fits-in, summed-near, summed-far}
 use Rattle.elements.proofs.Reaches.{last-at}
 use Rattle.rows.specs.Cells.{At}
 use Rattle.rows.specs.Leaves.{row, column}
@@ -97,26 +97,54 @@ returns-3 c =
 sum-of-requires : tie.Need-sum-of-requires
 sum-of-requires c κs = search needs
 
-kept-requires : tie.Need-kept-requires
-kept-requires c κs = search needs
+cast-within : tie.Need-cast-within
+cast-within c = search needs
+
+within-requires-2 : tie.Need-within-requires-2
+within-requires-2 c κs = search needs
+
+nothing-requires-4 : tie.Need-nothing-requires-4
+nothing-requires-4 c κs = search needs
 
 returns-4 : tie.Need-returns-4
 returns-4 c =
-    let st = c .before .before .before .before .before .before .before .before .before .before .before .before .before .before in
+    let m = c .before .before .before in
+    let st = m .before .before .before .before .before .before .before .before .before .before .before .before .before in
     let a = st .args .a in
     let b = st .args .b in
     let wa = field16 (a .rows) _ (st .good .0 .1 .1 .1 .1 .1 .0) in
     let wb = field16 (b .rows) _ (st .good .1 .0 .1 .1 .1 .1 .1 .0) in
     let S = st .pre in
-    let e2 = c .before .before .before .before .before .before in
-    let k = c .before .before .before .before .before .last-column in
-    let l = c .before .before .before .before .last-row in
+    let e2 = m .before .before .before .before .before in
+    let k = m .before .before .before .before .last-column in
+    let l = m .before .before .before .last-row in
     let C = last-at column (At (b .rows)) (k .result) (k .ensures) (some (S .1 .top)) in
     let R = last-at row (At (b .rows)) (l .result) (l .ensures) (some (S .1 .top)) in
-    let r = c .before .sum-of in
-    let W = c .before .before .before .within .ensures .0 (not-false _ (c .before .before .if3 .left)) in
-    summed-made a b wa wb (S .0) (S .1) (e2 .before .if1 .left) (e2 .if2 .left) (k .result) (l .result) C R (r .result) (rows16 (r .result) _ (r .ok)) (r .ensures) W
-    (c .kept .result) (c .kept .ensures .0) (c .kept .ensures .1)
+    let r = m .sum-of in
+    let wr = rows16 (r .result) _ (r .ok) in
+    let W = m .before .before .within .ensures .0 (not-false _ (m .before .if3 .left)) in
+    summed-far a b wa wb (S .0) (S .1) (e2 .before .if1 .left) (e2 .if2 .left) (k .result) (l .result) C R (r .result) wr (r .ensures) W
+    (c .nothing4 .result) (c .before .before .within2 .ensures .1 (not-true _ (c .before .if4 .taken))) (c .nothing4 .ensures)
+
+returns-5 : tie.Need-returns-5
+returns-5 c =
+    let m = c .before .before in
+    let st = m .before .before .before .before .before .before .before .before .before .before .before .before .before in
+    let a = st .args .a in
+    let b = st .args .b in
+    let wa = field16 (a .rows) _ (st .good .0 .1 .1 .1 .1 .1 .0) in
+    let wb = field16 (b .rows) _ (st .good .1 .0 .1 .1 .1 .1 .1 .0) in
+    let S = st .pre in
+    let e2 = m .before .before .before .before .before in
+    let k = m .before .before .before .before .last-column in
+    let l = m .before .before .before .last-row in
+    let C = last-at column (At (b .rows)) (k .result) (k .ensures) (some (S .1 .top)) in
+    let R = last-at row (At (b .rows)) (l .result) (l .ensures) (some (S .1 .top)) in
+    let r = m .sum-of in
+    let wr = rows16 (r .result) _ (r .ok) in
+    let W = m .before .before .within .ensures .0 (not-false _ (m .before .if3 .left)) in
+    summed-near a b wa wb (S .0) (S .1) (e2 .before .if1 .left) (e2 .if2 .left) (k .result) (l .result) C R (r .result) wr (r .ensures) W
+    (c .before .within2 .ensures .0 (not-false _ (c .if4 .left)))
 
 pub sum-spec : {M : Type 1} → statement M
 sum-spec =
@@ -134,5 +162,8 @@ sum-spec =
     nothing-requires-3
     returns-3
     sum-of-requires
-    kept-requires
-    returns-4)
+    cast-within
+    within-requires-2
+    nothing-requires-4
+    returns-4
+    returns-5)

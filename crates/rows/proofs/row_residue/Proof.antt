@@ -6,7 +6,7 @@ use mathlib.Core.Logic.{⊎-elim}
 use mathlib.Core.List.{List}
 use Prim.Native.Nat.{ℕ, _≤_, _-_, _+_}
 use Rattle.rows.specs.Leaves.{RowResidue}
-use Rattle.rows.proofs.Sums.{row-residue-none, row-residue-on, row-residue-off}
+use Rattle.rows.proofs.Sums.{row-residue-none, row-residue-on, row-residue-off, row-residue-end}
 use Rattle.rows.proofs.row_residue.Statement.{statement}
 use Rattle.rows.proofs.row_residue.Tie as tie
 
@@ -18,6 +18,17 @@ abbrev μ-loop : tie.MeasureT-loop
 
 loop-holds : tie.Need-loop-holds Inv-loop μ-loop
 loop-holds c = (omega arith, row-residue-none _ _ _ _)
+
+cast-if1 : tie.Need-cast-if1 Inv-loop μ-loop
+cast-if1 c = search needs
+
+shr-if1 : tie.Need-shr-if1 Inv-loop μ-loop
+shr-if1 c = search needs
+
+returns : tie.Need-returns Inv-loop μ-loop
+returns c =
+    let h = c .before .before .loop in
+    row-residue-end _ _ _ _ (h .i) (h .r) (h .inv .0) (c .if1 .taken) (h .inv .1)
 
 has-requires : tie.Need-has-requires Inv-loop μ-loop
 has-requires c κs = search needs
@@ -33,18 +44,18 @@ loop-less c = search needs
 
 loop-again : tie.Need-loop-again Inv-loop μ-loop
 loop-again c =
-    let st = c .before .before .before .before in
-    let h = c .before .before .before in
+    let st = c .before .before .before .before .before in
+    let h = c .before .before .before .before in
     let P : List ℕ → Type 0 = RowResidue (st .args .z) (st .args .t) (st .args .b) (st .args .j) (h .loop .i + 1) in (
       omega arith,
       ⊎-elim
           (λ w. subst P (sym (w .2)) (row-residue-on _ _ _ _ _ _ _ (h .loop .inv .1) (c .before .has .ensures .0 (w .0 .taken)) (w .1 .ensures)))
           (λ w. subst P (sym (w .1)) (row-residue-off _ _ _ _ _ _ (h .loop .inv .1) (c .before .has .ensures .1 (w .0 .left))))
-          (c .if1 .came),
+          (c .if2 .came),
     )
 
-returns : tie.Need-returns Inv-loop μ-loop
-returns c =
+returns-2 : tie.Need-returns-2 Inv-loop μ-loop
+returns-2 c =
     let e : c .before .loop .i ≡ 16 = omega arith in
     let st = c .before .before in
     subst (λ (n : ℕ). RowResidue (st .args .z) (st .args .t) (st .args .b) (st .args .j) n (c .before .loop .r)) e (c .before .loop .inv .1)
@@ -56,9 +67,12 @@ row-residue-spec =
     Inv-loop
     μ-loop
     loop-holds
+    cast-if1
+    shr-if1
+    returns
     has-requires
     under-requires
     add-i
     loop-less
     loop-again
-    returns)
+    returns-2)

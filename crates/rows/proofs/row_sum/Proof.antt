@@ -6,7 +6,7 @@ use mathlib.Core.Logic.{⊎-elim}
 use mathlib.Core.List.{List}
 use Prim.Native.Nat.{ℕ, _≤_, _-_, _+_}
 use Rattle.rows.specs.Leaves.{RowSum}
-use Rattle.rows.proofs.Sums.{row-sum-none, row-sum-on, row-sum-off}
+use Rattle.rows.proofs.Sums.{row-sum-none, row-sum-on, row-sum-off, row-sum-end}
 use Rattle.rows.proofs.row_sum.Statement.{statement}
 use Rattle.rows.proofs.row_sum.Tie as tie
 
@@ -18,6 +18,17 @@ abbrev μ-loop : tie.MeasureT-loop
 
 loop-holds : tie.Need-loop-holds Inv-loop μ-loop
 loop-holds c = (omega arith, row-sum-none _ _ _ _)
+
+cast-if1 : tie.Need-cast-if1 Inv-loop μ-loop
+cast-if1 c = search needs
+
+shr-if1 : tie.Need-shr-if1 Inv-loop μ-loop
+shr-if1 c = search needs
+
+returns : tie.Need-returns Inv-loop μ-loop
+returns c =
+    let h = c .before .before .loop in
+    row-sum-end _ _ _ _ (h .i) (h .r) (c .if1 .taken) (h .inv .1)
 
 has-requires : tie.Need-has-requires Inv-loop μ-loop
 has-requires c κs = search needs
@@ -33,18 +44,18 @@ loop-less c = search needs
 
 loop-again : tie.Need-loop-again Inv-loop μ-loop
 loop-again c =
-    let st = c .before .before .before .before in
-    let h = c .before .before .before in
+    let st = c .before .before .before .before .before in
+    let h = c .before .before .before .before in
     let P : List ℕ → Type 0 = RowSum (st .args .z) (st .args .a) (st .args .b) (st .args .j) (h .loop .i + 1) in (
       omega arith,
       ⊎-elim
           (λ w. subst P (sym (w .2)) (row-sum-on _ _ _ _ _ _ _ (h .loop .inv .1) (c .before .has .ensures .0 (w .0 .taken)) (w .1 .ensures)))
           (λ w. subst P (sym (w .1)) (row-sum-off _ _ _ _ _ _ (h .loop .inv .1) (c .before .has .ensures .1 (w .0 .left))))
-          (c .if1 .came),
+          (c .if2 .came),
     )
 
-returns : tie.Need-returns Inv-loop μ-loop
-returns c =
+returns-2 : tie.Need-returns-2 Inv-loop μ-loop
+returns-2 c =
     let e : c .before .loop .i ≡ 16 = omega arith in
     let st = c .before .before in
     subst (λ (n : ℕ). RowSum (st .args .z) (st .args .a) (st .args .b) (st .args .j) n (c .before .loop .r)) e (c .before .loop .inv .1)
@@ -56,9 +67,12 @@ row-sum-spec =
     Inv-loop
     μ-loop
     loop-holds
+    cast-if1
+    shr-if1
+    returns
     has-requires
     onto-requires
     add-i
     loop-less
     loop-again
-    returns)
+    returns-2)

@@ -26,7 +26,8 @@ returns-2 c =
     let s = st .args .s in
     let f = not-false _ (e .before .if1 .left) in
     let win = e .window in
-    let l = window-words s (fits-sound s (st .pre) f) (win .result) (field16 (win .result .rows) _ (win .ok .1 .1 .1 .1 .0)) (win .ensures) in
+    let R = field16 (s .rows) _ (st .good .0 .1 .1 .1 .1 .1 .0) in
+    let l = window-words s R (fits-sound s (st .pre) f) (win .result) (field16 (win .result .rows) _ (win .ok .1 .1 .1 .1 .0)) (win .ensures) in
     write-short s (st .args .out .now) f _ l (w .result) _ (w .ensures) (c .if2 .taken)
 
 same-length-2 : tie.Need-same-length-2
@@ -40,7 +41,8 @@ returns-3 c =
     let s = st .args .s in
     let f = not-false _ (e .before .if1 .left) in
     let win = e .window in
-    let l = window-words s (fits-sound s (st .pre) f) (win .result) (field16 (win .result .rows) _ (win .ok .1 .1 .1 .1 .0)) (win .ensures) in
+    let R = field16 (s .rows) _ (st .good .0 .1 .1 .1 .1 .1 .0) in
+    let l = window-words s R (fits-sound s (st .pre) f) (win .result) (field16 (win .result .rows) _ (win .ok .1 .1 .1 .1 .0)) (win .ensures) in
     write-done s (st .args .out .now) f _ l (w .result) _ (w .ensures) (c .if2 .left)
 
 pub write-shape-spec : {M : Type 1} → statement M

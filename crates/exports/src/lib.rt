@@ -1,0 +1,48 @@
+// The calls for Rust and C: one function for each, on plain numbers and slices (a pointer and a length). include/musqerpi.h declares them.
+// An answer is the result, or −N for refusal N; what it and the lent words are is said by the call that each stands for.
+ghost use mathlib.Core.Path.{_≡_};
+ghost use Rattle.shapes.specs.Calls.{Moved, Joined, Summed, TurnedBack};
+ghost use Rattle.exports.specs.Numbers.{signedOf, Stands};
+use words::Answer;
+
+// The result, or −N for refusal N.
+fn signed(a: Answer) -> i64
+    ensures { λ r. ⌜ r ≡ signedOf a ⌝ }
+{
+    match a {
+        Answer::Done(n) => n as i64,
+        Answer::Refused(g) => -(words::number(g) as i64),
+    }
+}
+
+// Turning a plan back into a shape list.
+#[no_mangle]
+pub extern "C" fn musq_shape_of_plan(plan: &[u32], out: &mut [u32]) -> i64
+    ensures { λ r. ⌜ Stands r (λ a. TurnedBack (now (plan .entry)) (now (out .entry)) a (now (out .exit))) ⌝ }
+{
+    signed(shaping::shape_of_plan(plan, out))
+}
+
+// Moving a shape.
+#[no_mangle]
+pub extern "C" fn musq_move(shape: &[u32], dx: i32, dy: i32, out: &mut [u32]) -> i64
+    ensures { λ r. ⌜ Stands r (λ a. Moved (now (shape .entry)) (dx, dy) (now (out .entry)) a (now (out .exit))) ⌝ }
+{
+    signed(shaping::move_shape(shape, dx, dy, out))
+}
+
+// Joining two shapes.
+#[no_mangle]
+pub extern "C" fn musq_join(a: &[u32], b: &[u32], out: &mut [u32]) -> i64
+    ensures { λ r. ⌜ Stands r (λ s. Joined (now (a .entry)) (now (b .entry)) (now (out .entry)) s (now (out .exit))) ⌝ }
+{
+    signed(shaping::join_shapes(a, b, out))
+}
+
+// Summing two shapes.
+#[no_mangle]
+pub extern "C" fn musq_sum(a: &[u32], b: &[u32], out: &mut [u32]) -> i64
+    ensures { λ r. ⌜ Stands r (λ s. Summed (now (a .entry)) (now (b .entry)) (now (out .entry)) s (now (out .exit))) ⌝ }
+{
+    signed(shaping::sum_shapes(a, b, out))
+}

@@ -1,0 +1,87 @@
+/* Musqerpi: mask shapes and their 3x3 stage plans, by the C ABI.
+ *
+ * Lists are of 32-bit words; the top four bits of a word are its kind.
+ *   kind 1, anchor: bits 0-3 ax, bits 4-7 ay
+ *   kind 2, row:    bits 16-19 y, bits 0-15 columns (bit i is x = i)
+ *   kind 3, head:   bits 0-7 the number n of stages
+ *   kind 4, place:  bits 0-7 dx + 15, bits 8-15 dy + 15
+ *   kind 5, stage:  bits 0-8 a mask; cell (i, j) is bit 3j + i
+ * A shape list is one anchor and then its non-empty rows, y rising (2 to 17
+ * words). A plan list is head, place and n stages, masks never falling (2 to
+ * 32 words).
+ *
+ * Every call answers the length of the list that it wrote, or -N, where N is
+ * the ground on which it refuses (enum musq_ground). Grounds are tried in the
+ * order of their numbers, each over all the lists given before the next, and
+ * the first that holds is the answer. A refusal changes nothing. On success
+ * the list stands at the start of the output, the output words past it are as
+ * they were, and the inputs are never changed.
+ *
+ * A list is a pointer and its number of words. The pointer is never null and
+ * is aligned for uint32_t; that of an empty list may be any such pointer. The
+ * output must not overlap an input; the two inputs of a call may be the same.
+ * An output of 17 words or more is enough for any shape list. Nothing is kept
+ * after the call.
+ */
+#ifndef MUSQERPI_H
+#define MUSQERPI_H
+
+#include <stddef.h>
+#include <stdint.h>
+
+#ifdef __cplusplus
+extern "C" {
+#endif
+
+/* The fourteen grounds for refusal, in checking order. */
+enum musq_ground {
+    MUSQ_LIST_LENGTH = 1,    /* a list is too short or too long */
+    MUSQ_WORD_KIND = 2,      /* a word's kind isn't the one its place calls for */
+    MUSQ_EXTRA_BIT = 3,      /* a bit that its kind doesn't name is set */
+    MUSQ_ROW_ORDER = 4,      /* a row has no column, or its y isn't above the row before */
+    MUSQ_STAGE_COUNT = 5,    /* the head's count isn't the number of words less 2 */
+    MUSQ_PLACE_FIELD = 6,    /* a place field is above 30 */
+    MUSQ_STAGE_MASK = 7,     /* a mask isn't normal, has fewer than two cells, or falls */
+    MUSQ_OUT_OF_RANGE = 8,   /* the points have w or h above 15, or x or y beyond -15 to 15 */
+    MUSQ_OUTPUT_LENGTH = 9,  /* the output has fewer words than needed: 17 for a shape */
+    MUSQ_NO_CHAIN = 10,      /* no chain exists */
+    MUSQ_FRAME_SIZE = 11,    /* W or H isn't 1 to 240 */
+    MUSQ_FRAME_LENGTH = 12,  /* the frame's length isn't W x H */
+    MUSQ_CELL_VALUE = 13,    /* a cell is above 1 */
+    MUSQ_IMAGE_LENGTH = 14   /* a work image is too short */
+};
+
+/* Turns a plan back into a shape: its points are the plan's offset added to
+ * the sum of its stages (one point if there are none).
+ * Grounds: 1, 2, 3, 5, 6, 7, 8, 9.
+ * Writes the shape list with the least anchor to out and answers its length,
+ * 2 to 17; a refusal changes nothing. */
+int64_t musq_shape_of_plan(const uint32_t *plan, size_t n, uint32_t *out, size_t out_n);
+
+/* Moves a shape: adds dx to the x and dy to the y of each of its points. Any
+ * dx and dy may be given; there is no overflow.
+ * Grounds: 1, 2, 3, 4, 8, 9.
+ * Writes the new shape's list with the least anchor to out and answers its
+ * length, 2 to 17; a refusal changes nothing. */
+int64_t musq_move(const uint32_t *shape, size_t n, int32_t dx, int32_t dy, uint32_t *out,
+                  size_t out_n);
+
+/* Joins two shapes: the union of their points, each taken from its own anchor.
+ * Grounds: 1, 2, 3, 4 (each over both lists before the next), 8, 9.
+ * Writes the new shape's list with the least anchor to out and answers its
+ * length, 2 to 17; a refusal changes nothing. */
+int64_t musq_join(const uint32_t *a, size_t an, const uint32_t *b, size_t bn, uint32_t *out,
+                  size_t out_n);
+
+/* Sums two shapes: all sums of a point of a and a point of b.
+ * Grounds: 1, 2, 3, 4 (each over both lists before the next), 8, 9.
+ * Writes the new shape's list with the least anchor to out and answers its
+ * length, 2 to 17; a refusal changes nothing. */
+int64_t musq_sum(const uint32_t *a, size_t an, const uint32_t *b, size_t bn, uint32_t *out,
+                 size_t out_n);
+
+#ifdef __cplusplus
+}
+#endif
+
+#endif

@@ -1,0 +1,43 @@
+/* The header against the archive, from C: one answer and one refusal of each call, by document 01. Exits with the number of answers that are wrong. */
+#include <stdio.h>
+#include <string.h>
+
+#include "musqerpi.h"
+
+static int wrong;
+
+/* The answer n and the words of out are those expected; the words past the list are as they were. */
+static void expect(const char *call, int64_t n, int64_t answer, const uint32_t *out, const uint32_t *words)
+{
+    uint32_t all[17];
+    memset(all, 0xa5, sizeof all);
+    if (answer > 0)
+        memcpy(all, words, (size_t)answer * sizeof *words);
+    if (n != answer || memcmp(out, all, sizeof all) != 0) {
+        printf("%s: wrong\n", call);
+        wrong++;
+    }
+}
+
+int main(void)
+{
+    static const uint32_t row[] = {0x10000000, 0x2000000f};
+    static const uint32_t cell[] = {0x10000000, 0x20000001};
+    static const uint32_t plan[] = {0x30000002, 0x40000f0f, 0x50000003, 0x50000005};
+    static const uint32_t moved[] = {0x10000010, 0x200001e0};
+    uint32_t out[17];
+
+    memset(out, 0xa5, sizeof out);
+    expect("musq_shape_of_plan, cut", musq_shape_of_plan(plan, 3, out, 17), -MUSQ_STAGE_COUNT, out, row);
+    expect("musq_shape_of_plan", musq_shape_of_plan(plan, 4, out, 17), 2, out, row);
+    memset(out, 0xa5, sizeof out);
+    expect("musq_move, far", musq_move(row, 2, 13, 0, out, 17), -MUSQ_OUT_OF_RANGE, out, moved);
+    expect("musq_move", musq_move(row, 2, 5, -1, out, 17), 2, out, moved);
+    memset(out, 0xa5, sizeof out);
+    expect("musq_join, short", musq_join(row, 2, cell, 2, out, 16), -MUSQ_OUTPUT_LENGTH, out, row);
+    expect("musq_join", musq_join(row, 2, cell, 2, out, 17), 2, out, row);
+    memset(out, 0xa5, sizeof out);
+    expect("musq_sum, a plan", musq_sum(row, 2, plan, 4, out, 17), -MUSQ_WORD_KIND, out, row);
+    expect("musq_sum", musq_sum(row, 2, cell, 2, out, 17), 2, out, row);
+    return wrong;
+}

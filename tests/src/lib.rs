@@ -1,0 +1,10 @@
+//! Tests of the library through its C boundary, against an independent
+//! implementation written from document 01.
+
+pub mod cases;
+pub mod check;
+pub mod library;
+pub mod lists;
+pub mod random;
+pub mod reference;
+pub mod tally;
