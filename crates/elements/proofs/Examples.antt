@@ -5,12 +5,11 @@ use mathlib.Core.List.{List, [], _∷_}
 use Prim.Native.Nat.{ℕ}
 use lib.IntN.{pos, negsuc}
 use lib.ListN.{replicate}
-use Rattle.plane.specs.Extent.{least}
-use Rattle.plane.specs.Point.{Point, Cell, _+ᵖ_, negᵖ}
+use Rattle.plane.specs.Point.{_+ᵖ_, negᵖ}
 use Rattle.shapes.specs.Shape.{outOfRange}
 use Rattle.shapes.specs.Listed.{leastAnchor}
 use Rattle.elements.specs.declared.Shape.{Shape}
-use Rattle.elements.specs.Standing.{cellsOf, pointsOf, windowPoints, place}
+use Rattle.elements.specs.Standing.{cellsOf, pointsOf, windowPoints}
 
 -- cells (0, 0), (1, 0) and (0, 1), which stand at (−15, 15), at (0, 0) and at (15, 0)
 three : List ℕ

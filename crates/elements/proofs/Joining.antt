@@ -12,7 +12,8 @@ use Rattle.plane.specs.Lists.{In}
 use Rattle.plane.specs.Point.{Point, point, _+ᵖ_, _≐_}
 use Rattle.plane.proofs.Member.{In-append}
 use Rattle.rows.specs.Cells.{Same, At, Points}
-use Rattle.rows.specs.Leaves.{Either, Raised, Least, column, row}
+use Rattle.rows.specs.Leaves.{Either, Raised}
+use Rattle.extents.specs.Extents.{Least, column, row}
 use Rattle.rows.proofs.Fill.{below-or}
 use Rattle.rows.proofs.Sums.{Rows16}
 use Rattle.shapes.specs.Shape.{outOfRange}

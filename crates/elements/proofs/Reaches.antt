@@ -5,8 +5,8 @@ use mathlib.Core.Bool.{Bool, true, false}
 use Prim.Native.Nat.{ℕ, _-_, _≤_}
 use native.Mathlib.Omega.{arith}
 use lib.Dec.{T}
-use Rattle.rows.specs.Cells.{Cells, Greatest}
-use Rattle.rows.specs.Leaves.{SomeCell, Least, FirstOf, LastOf, row, column}
+use Rattle.rows.specs.Cells.{Cells}
+use Rattle.extents.specs.Extents.{Greatest, SomeCell, Least, FirstOf, LastOf, row, column}
 use Rattle.elements.specs.Standing.{Within}
 
 -- a test has one answer

@@ -17,7 +17,7 @@ use Rattle.shapes.specs.Shape.{outOfRange}
 use Rattle.elements.specs.declared.Shape.{Shape}
 use Rattle.elements.specs.Standing.{cellsOf, pointsOf, place, Sound, Within}
 use Rattle.elements.proofs.Ranges.{cells-range, range-cells}
-use Rattle.rows.specs.Leaves.{SomeCell, Least, FirstOf, row, column}
+use Rattle.extents.specs.Extents.{SomeCell, Least, FirstOf, row, column}
 
 -- the cells of rows
 pub cells-at : (rows : List ℕ) → Rows16 rows → (x y : ℕ) → In (cellsOf rows) (x, y) ↔ At rows x y

@@ -15,8 +15,9 @@ use Rattle.plane.proofs.Integer.{+ℤ-swap, diff-lt}
 use Rattle.plane.proofs.Tests.{clash}
 use Rattle.masks.specs.Chain.{sums}
 use Rattle.masks.proofs.Sum.{sums-is}
-use Rattle.rows.specs.Cells.{Sum, At, Points, Greatest}
-use Rattle.rows.specs.Leaves.{SumOf, row, column, SomeCell}
+use Rattle.rows.specs.Cells.{Sum, At, Points}
+use Rattle.extents.specs.Extents.{Greatest, SomeCell, row, column}
+use Rattle.rows.specs.Leaves.{SumOf}
 use Rattle.rows.proofs.Bridge.{points-sum, points-same}
 use Rattle.rows.proofs.Sums.{Rows16}
 use Rattle.shapes.specs.Shape.{outOfRange, tooFar}

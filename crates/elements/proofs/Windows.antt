@@ -16,7 +16,8 @@ use Rattle.plane.proofs.Extents.{least-at}
 use Rattle.plane.proofs.Integer.{diff-ge, diff-lt, ≤ℤ-to}
 use Rattle.plane.proofs.Member.{In-map}
 use Rattle.rows.specs.Cells.{Same, At, Points}
-use Rattle.rows.specs.Leaves.{Lowered, Raised, Least, row, column}
+use Rattle.rows.specs.Leaves.{Lowered, Raised}
+use Rattle.extents.specs.Extents.{Least, row, column}
 use Rattle.rows.proofs.Fill.{below-or}
 use Rattle.rows.proofs.Sums.{Rows16, in-x, in-y}
 use Rattle.shapes.specs.Listed.{below, leastAnchor}

@@ -10,7 +10,8 @@ use lib.ListN.{getD, replicate}
 use Rattle.plane.specs.Lists.{In, flat, bits, upTo}
 use Rattle.plane.specs.Point.{Point, Cell, point, _+ᵖ_, _-ᵖ_, _≐_}
 use Rattle.rows.specs.Cells.{Cells, At}
-use Rattle.rows.specs.Leaves.{Raised, Least, SomeCell, row, column}
+use Rattle.rows.specs.Leaves.{Raised}
+use Rattle.extents.specs.Extents.{Least, SomeCell, row, column}
 use Rattle.shapes.specs.Shape.{outOfRange, tooFar}
 use Rattle.elements.specs.declared.Shape.{Shape}
 use Rattle.elements.specs.declared.Window.{Window}

@@ -7,7 +7,7 @@ ghost use Prim.Native.Nat.{_-_, min};
 ghost use Rattle.plane.specs.Point.{_+ᵖ_};
 ghost use Rattle.masks.specs.Chain.{sums};
 ghost use Rattle.rows.specs.Cells.{At};
-ghost use Rattle.rows.specs.Leaves.{SomeCell};
+ghost use Rattle.extents.specs.Extents.{SomeCell};
 ghost use Rattle.elements.specs.Standing.{pointsOf, windowPoints, Sound, noShape, Made, Along, Within, Anchored, InWindow};
 
 // The cells stand in rows with one in column 0 and one in row 0; their (0, 0) is the point (x − 15, y − 15). fits is false of what is out of range.
@@ -62,10 +62,10 @@ fn within(a: [u16; 16], i: u32, j: usize, limit: u32) -> bool
     if (limit as usize) < j {
         return false;
     }
-    if limit - i < rows::last_column(a) {
+    if limit - i < extents::last_column(a) {
         return false;
     }
-    rows::last_row(a) <= (limit as usize) - j
+    extents::last_row(a) <= (limit as usize) - j
 }
 
 // The lesser of two numbers.
@@ -92,10 +92,10 @@ impl Shape {
         if !self.fits {
             return false;
         }
-        if rows::first_row(rows) != 0 {
+        if extents::first_row(rows) != 0 {
             return false;
         }
-        if rows::first_column(rows) != 0 {
+        if extents::first_column(rows) != 0 {
             return false;
         }
         within(rows, self.x, self.y as usize, 30)
@@ -173,11 +173,11 @@ impl Shape {
         if 15 < ay {
             return nothing();
         }
-        if rows::empty(rows) {
+        if extents::empty(rows) {
             return nothing();
         }
-        let i = rows::first_column(rows);
-        let j = rows::first_row(rows);
+        let i = extents::first_column(rows);
+        let j = extents::first_row(rows);
         Shape {
             fits: true,
             x: i + 15 - ax,
@@ -229,7 +229,7 @@ fn sum(a: Shape, b: Shape) -> Shape
     if y < 15 {
         return nothing();
     }
-    if !within(p, rows::last_column(q), rows::last_row(q), 15) {
+    if !within(p, extents::last_column(q), extents::last_row(q), 15) {
         return nothing();
     }
     let r = rows::sum_of(p, q);

@@ -14,7 +14,7 @@ use Rattle.plane.proofs.Member.{In-any, In-keep, In-upTo, upTo-In}
 use Rattle.plane.proofs.Tests.{eq-eqb, same-test}
 use Rattle.words.specs.Word.{anchorWord, rowWord}
 use Rattle.rows.specs.Cells.{At, bit}
-use Rattle.rows.proofs.Extents.{row-cell}
+use Rattle.rows.proofs.Sums.{row-cell}
 use Rattle.rows.proofs.Fill.{below-or}
 use Rattle.rows.proofs.RowBits.{bits-ext, no-bit}
 use Rattle.rows.proofs.Sums.{Rows16, bit-same}

@@ -1,12 +1,9 @@
 -- Worked cases of cells of rows and masks.
 use mathlib.Core.Path.{refl}
 use mathlib.Core.List.{[], _∷_}
-use Prim.Native.Nat.{ℕ, zero, suc, _≤_}
-use native.Mathlib.Omega.{arith}
 use lib.Dec.{lit<}
 use Rattle.rows.specs.Cells.{At, AtMask, Sum}
-use Rattle.rows.specs.Leaves.{Lowered, Least, row}
-use Rattle.rows.proofs.RowBits.{no-bit}
+use Rattle.rows.specs.Leaves.{Lowered}
 
 -- bit 2 of row 1
 row-cell : At (0 ∷ 4 ∷ []) 2 1
@@ -32,11 +29,3 @@ sum-cell = record {
 -- moved by (−1, −1), it is bit 1 of row 0
 lowered-cell : Lowered (At (0 ∷ 4 ∷ [])) 1 1 1 0
 lowered-cell = refl
-
--- row 1 is the first with a cell
-first-cell : Least row (At (0 ∷ 4 ∷ [])) 1
-first-cell = record { x = 2; y = 1; cell = refl; at = refl; all = from-row-1 }
-  where
-    from-row-1 : (x y : ℕ) → At (0 ∷ 4 ∷ []) x y → 1 ≤ y
-    from-row-1 x zero h = absurd (no-bit x h)
-    from-row-1 x (suc y) h = omega arith

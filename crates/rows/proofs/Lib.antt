@@ -5,6 +5,5 @@ pub mod Fill
 pub mod Shifts
 pub mod Sums
 pub mod MaskRows
-pub mod Extents
 pub mod Joins
 pub mod Known

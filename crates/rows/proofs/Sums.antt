@@ -10,7 +10,7 @@ use lib.ListN.{length, getD, replicate, getD-replicate, List·getD-eq-default}
 use lib.Pow.{pow-pos, ones-split, high, ones-lt}
 use Rattle.rows.specs.Cells.{Same, bit, At}
 use Rattle.rows.specs.Leaves.{Onto, Under, RowSum, SumTo, SumOf, RowResidue, ResidueTo, ResidueOf}
-use Rattle.rows.proofs.RowBits.{bits-ext, bit-in, no-bit}
+use Rattle.rows.proofs.RowBits.{bits-ext, bit-in, no-bit, bit-shr}
 use Rattle.rows.proofs.Fill.{below-or}
 
 pub last-or : (q n : ℕ) → q < n + 1 → (q ≡ n) ⊎ (q < n)
@@ -28,6 +28,19 @@ pub in-y : (a : List ℕ) → Rows16 a → (x y : ℕ) → At a x y → y < 16
 in-y a w x y h = ⊎-elim (λ v. v)
     (λ v. absurd (no-bit x (ap (λ (n : ℕ). bit n x) (sym (List·getD-eq-default a 0 (subst (λ (k : ℕ). k ≤ y) (sym (w .rows)) v))) ∙ h)))
     (below-or y 16)
+
+-- a word that is not 0 has a bit
+bit-of : (k n : ℕ) → n < 2 ^ k → (n ≡ 0 → ⊥) → (x : ℕ) × (bit n x ≡ 1)
+bit-of zero n l f = absurd (f (omega arith))
+bit-of (suc k) n l f = ⊎-elim
+    (λ w. let e : 2 ^ suc k ≡ 2 ^ k * 2 = pow-suc 2 k in
+    let g = bit-of k (n / 2) (omega arith) (λ z. f (omega arith)) in
+    (1 + g .0, sym (bit-shr n 1 (g .0)) ∙ g .1))
+    (λ w. (0, omega arith))
+    (below-or (n % 2) 1)
+
+pub row-cell : (a : List ℕ) → Rows16 a → (y : ℕ) → (getD a y 0 ≡ 0 → ⊥) → (x : ℕ) × At a x y
+row-cell a w y f = bit-of 16 (getD a y 0) (w .words y) f
 
 -- a number without bits from n on is below 2 ^ n
 low-of : (b n : ℕ) → b / 2 ^ n ≡ 0 → b < 2 ^ n

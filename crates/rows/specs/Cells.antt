@@ -2,9 +2,9 @@
 -- where a set of cells stands on the plane. The laws say that these are the plane's own ⊕ and ⊖.
 use mathlib.Core.Path.{_≡_}
 use mathlib.Core.List.{List, [], _∷_}
-use Prim.Native.Nat.{ℕ, _+_, _*_, _/_, _%_, _^_, _≤_, _<_}
+use Prim.Native.Nat.{ℕ, _+_, _*_, _/_, _%_, _^_, _<_}
 use lib.ListN.{getD}
-use Rattle.plane.specs.Point.{Point, PointSet, _+ᵖ_, point}
+use Rattle.plane.specs.Point.{Point, _+ᵖ_, point}
 
 -- a set of cells is what it says of each cell (x, y)
 abbrev pub Cells : Type 1
@@ -53,14 +53,6 @@ pub record AtOrigin (x y : ℕ) : Type 0 where
 abbrev pub AtSum : List ℕ → Cells
 AtSum [] = AtOrigin
 AtSum (m ∷ ms) = Sum (AtMask m) (AtSum ms)
-
--- the greatest number of a cell of X, its column or its row, is n
-pub record Greatest (number : ℕ → ℕ → ℕ) (X : Cells) (n : ℕ) : Type 0 where
-  pub x : ℕ
-  pub y : ℕ
-  pub cell : X x y
-  pub at : number x y ≡ n
-  pub all : (x y : ℕ) → X x y → number x y ≤ n
 
 -- the points of X, moved by d
 pub record Points (X : Cells) (d p : Point) : Type 0 where

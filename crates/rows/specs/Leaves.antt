@@ -2,8 +2,8 @@
 use mathlib.Core.Path.{_≡_}
 use mathlib.Core.Logic.{_⊎_}
 use mathlib.Core.List.{List}
-use Prim.Native.Nat.{ℕ, _+_, _≤_, _<_}
-use Rattle.rows.specs.Cells.{Cells, Sum, Residue, At, bit, Greatest}
+use Prim.Native.Nat.{ℕ, _+_, _<_}
+use Rattle.rows.specs.Cells.{Cells, Sum, Residue, At, bit}
 
 -- (x, y) is a cell of X moved by (i, j)
 pub record MovedCell (X : Cells) (i j x y : ℕ) : Type 0 where
@@ -69,42 +69,3 @@ Lowered X i j x y = X (x + i) (y + j)
 pub record Raised (X : Cells) (i j : ℕ) (Y : Cells) : Type 0 where
   pub to : (x y : ℕ) → Y x y → MovedCell X i j x y
   pub from : (x y : ℕ) → X x y → x + i < 16 → y + j < 16 → Y (x + i) (y + j)
-
--- X has no cell
-pub record NoCell (X : Cells) : Type 0 where
-  pub no : (x y : ℕ) → X x y → ⊥
-
--- X has a cell
-pub record SomeCell (X : Cells) : Type 0 where
-  pub x : ℕ
-  pub y : ℕ
-  pub cell : X x y
-
--- the row of a cell
-abbrev pub row : ℕ → ℕ → ℕ
-row x y = y
-
--- the column of a cell
-abbrev pub column : ℕ → ℕ → ℕ
-column x y = x
-
--- the least number of a cell of X, its column or its row, is n
-pub record Least (number : ℕ → ℕ → ℕ) (X : Cells) (n : ℕ) : Type 0 where
-  pub x : ℕ
-  pub y : ℕ
-  pub cell : X x y
-  pub at : number x y ≡ n
-  pub all : (x y : ℕ) → X x y → n ≤ number x y
-
--- n is the least number of a cell of X, or 16 where X has none
-abbrev pub FirstOf : (ℕ → ℕ → ℕ) → Cells → ℕ → Type 0
-FirstOf number X n = Least number X n ⊎ (NoCell X × (n ≡ 16))
-
--- n is the greatest number of a cell of X, or 16 where X has none
-abbrev pub LastOf : (ℕ → ℕ → ℕ) → Cells → ℕ → Type 0
-LastOf number X n = Greatest number X n ⊎ (NoCell X × (n ≡ 16))
-
--- bit x of r is set where a has a cell in column x before row n
-pub record Columns (a : List ℕ) (n r : ℕ) : Type 0 where
-  pub to : (x : ℕ) → bit r x ≡ 1 → (y : ℕ) × At a x y
-  pub from : (x y : ℕ) → y < n → At a x y → bit r x ≡ 1

@@ -1,11 +1,10 @@
 // Rows of cells as 16-bit words, [u16; 16]: bit x of row y is the cell (x, y), and the window is the 16 × 16 cells that rows can hold.
-// sum_of and residue_of are ⊕ and ⊖ cut to the window; same and empty test rows; mask_rows, joined, lowered and raised make them; first_row, last_row,
-// first_column and last_column say how far they reach.
+// sum_of and residue_of are ⊕ and ⊖ cut to the window; same tests rows; mask_rows, joined, lowered and raised make them.
 ghost use mathlib.Core.Path.{_≡_};
 ghost use mathlib.Core.Bool.{true, false};
 ghost use Prim.Native.Nat.{_<_, _%_};
 ghost use Rattle.rows.specs.Cells.{Same, At, bit, AtMask};
-ghost use Rattle.rows.specs.Leaves.{Onto, Under, SumOf, ResidueOf, RowSum, RowResidue, Either, Lowered, Raised, NoCell, SomeCell, Columns, FirstOf, LastOf, row, column};
+ghost use Rattle.rows.specs.Leaves.{Onto, Under, SumOf, ResidueOf, RowSum, RowResidue, Either, Lowered, Raised};
 
 // Whether bit i of a is set.
 fn has(a: u16, i: u32) -> bool
@@ -171,83 +170,4 @@ pub fn raised(a: [u16; 16], i: u32, j: usize) -> [u16; 16]
         }
     }
     [0u16; 16]
-}
-
-// The least row of a with a cell; 16 where there is none.
-pub fn first_row(a: [u16; 16]) -> usize
-    ensures { λ r. ⌜ FirstOf row (At a) r ⌝ }
-{
-    let mut first = 0;
-    while first < 16 {
-        if a[first] != 0 {
-            return first;
-        }
-        first += 1;
-    }
-    16
-}
-
-// The greatest row of a with a cell; 16 where there is none.
-pub fn last_row(a: [u16; 16]) -> usize
-    ensures { λ r. ⌜ LastOf row (At a) r ⌝ }
-{
-    let mut last = 16;
-    while last > 0 {
-        last -= 1;
-        if a[last] != 0 {
-            return last;
-        }
-    }
-    16
-}
-
-// The columns in which a has a cell: bit x for column x.
-fn columns(a: [u16; 16]) -> u16
-    ensures { λ r. ⌜ Columns a 16 r ⌝ }
-{
-    let mut r: u16 = 0;
-    let mut y = 0;
-    while y < 16 {
-        r = r | a[y];
-        y += 1;
-    }
-    r
-}
-
-// The least column of a with a cell; 16 where there is none.
-pub fn first_column(a: [u16; 16]) -> u32
-    ensures { λ r. ⌜ FirstOf column (At a) r ⌝ }
-{
-    let c = columns(a);
-    let mut first: u32 = 0;
-    while first < 16 {
-        if has(c, first) {
-            return first;
-        }
-        first += 1;
-    }
-    16
-}
-
-// The greatest column of a with a cell; 16 where there is none.
-pub fn last_column(a: [u16; 16]) -> u32
-    ensures { λ r. ⌜ LastOf column (At a) r ⌝ }
-{
-    let c = columns(a);
-    let mut last: u32 = 16;
-    while last > 0 {
-        last -= 1;
-        if has(c, last) {
-            return last;
-        }
-    }
-    16
-}
-
-// Whether a has no cell.
-pub fn empty(a: [u16; 16]) -> bool
-    ensures yes { λ r. ⌜ (r ≡ true → NoCell (At a)) ⌝ }
-    ensures no { λ r. ⌜ (r ≡ false → SomeCell (At a)) ⌝ }
-{
-    first_row(a) == 16
 }

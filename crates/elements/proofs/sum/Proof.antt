@@ -7,10 +7,10 @@ use Rattle.elements.proofs.Made.{made-far}
 use Rattle.elements.proofs.Summing.{not-low-x, not-low-y, fits-in, summed-near, summed-far}
 use Rattle.elements.proofs.Reaches.{last-at}
 use Rattle.rows.specs.Cells.{At}
-use Rattle.rows.specs.Leaves.{row, column}
 use Rattle.rows.proofs.Known.{field16, rows16}
 use Rattle.elements.proofs.Stands.{some, sound-cell}
 use Rattle.elements.proofs.sum.Tie as tie
+use Rattle.extents.specs.Extents.{row, column}
 
 add-x : tie.Need-add-x
 add-x c =

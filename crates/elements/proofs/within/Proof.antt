@@ -4,10 +4,10 @@ use native.Mathlib.Omega.{arith}
 use borrow.Author.Needs.{needs}
 use borrow.Author.Tests.{leb-true, leb-false}
 use Rattle.rows.specs.Cells.{At}
-use Rattle.rows.specs.Leaves.{column}
 use Rattle.elements.proofs.Reaches.{answer-no, within-yes, within-no, last-at}
 use Rattle.elements.proofs.within.Statement.{statement}
 use Rattle.elements.proofs.within.Tie as tie
+use Rattle.extents.specs.Extents.{column}
 
 returns : tie.Need-returns
 returns c = answer-no (λ s w. let a = w .all (s .x) (s .y) (s .cell) in let t = c .if1 .taken in omega arith)

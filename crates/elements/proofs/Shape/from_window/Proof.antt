@@ -5,11 +5,11 @@ use Rattle.elements.proofs.Shape.from_window.Statement.{statement}
 use Rattle.elements.proofs.Windows.{from-made, least-x, least-y}
 use Rattle.elements.proofs.Reaches.{first-at}
 use Rattle.rows.specs.Cells.{At}
-use Rattle.rows.specs.Leaves.{row, column}
 use Rattle.rows.proofs.Known.{field16, rows16}
 use Rattle.elements.proofs.Made.{made-none}
 use Rattle.elements.specs.Standing.{Anchored}
 use Rattle.elements.proofs.Shape.from_window.Tie as tie
+use Rattle.extents.specs.Extents.{row, column}
 
 nothing-requires : tie.Need-nothing-requires
 nothing-requires c κs = search needs

@@ -6,7 +6,7 @@ use Rattle.rows.proofs.Known.{field16}
 use Rattle.elements.proofs.Reaches.{answer-no, first-at, least-once, one-answer}
 use Rattle.elements.proofs.Shape.sound.Statement.{statement}
 use Rattle.rows.specs.Cells.{At}
-use Rattle.rows.specs.Leaves.{row, column, FirstOf}
+use Rattle.extents.specs.Extents.{FirstOf, row, column}
 use Rattle.elements.proofs.Stands.{some, is-sound, sound-within}
 use Rattle.elements.proofs.Shape.sound.Tie as tie
 

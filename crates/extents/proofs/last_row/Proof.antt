@@ -3,13 +3,13 @@ use borrow.Author.Needs.{needs}
 use native.Mathlib.Omega.{arith}
 use Prim.Native.Nat.{_≤_, _-_}
 use mathlib.Core.Path.{refl}
 use Rattle.rows.specs.Cells.{At}
-use Rattle.rows.specs.Leaves.{row}
 use Rattle.rows.proofs.Known.{rows16}
-use Rattle.rows.proofs.Sums.{in-y}
-use Rattle.rows.proofs.Extents.{Below, below-less, below-found, below-done, row-cell, row-clear}
-use Rattle.rows.proofs.last_row.Statement.{statement}
-use Rattle.rows.proofs.last_row.Tie as tie
+use Rattle.rows.proofs.Sums.{in-y, row-cell}
+use Rattle.extents.proofs.Search.{Below, below-less, below-found, below-done, row-clear}
+use Rattle.extents.proofs.last_row.Statement.{statement}
+use Rattle.extents.proofs.last_row.Tie as tie
+use Rattle.extents.specs.Extents.{row}
 
 abbrev Inv-loop : tie.InvT-loop
 Inv-loop a last₀ last = (last ≤ 16) × Below row (At a) last

@@ -3,17 +3,16 @@
 use mathlib.Core.Path.{_≡_, sym, ap, subst, _∙_}
 use mathlib.Core.Logic.{inl, inr, ⊎-elim}
 use mathlib.Core.List.{List}
-use Prim.Native.Nat.{ℕ, zero, suc, _+_, _*_, _/_, _%_, _^_, _≤_, _<_}
+use Prim.Native.Nat.{ℕ, _+_, _≤_, _<_}
 use native.Mathlib.Omega.{arith}
-use native.Mathlib.Nat.{pow-suc}
 use lib.Bits.{bitOr}
 use lib.ListN.{getD}
 use Rattle.rows.specs.Cells.{Cells, At, bit}
-use Rattle.rows.specs.Leaves.{NoCell, SomeCell, FirstOf, LastOf, Columns, row, column}
-use Rattle.rows.proofs.RowBits.{bit-shr, no-bit}
+use Rattle.extents.specs.Extents.{NoCell, SomeCell, FirstOf, LastOf, Columns, row, column}
+use Rattle.rows.proofs.RowBits.{no-bit}
 use Rattle.rows.proofs.Fill.{below-or}
 use Rattle.rows.proofs.Shifts.{or-on, on-or-l, on-or-r}
 use Rattle.rows.proofs.Sums.{Rows16, in-x, in-y, last-or}
 
 -- ---- searches
 module _ (number : ℕ → ℕ → ℕ) (X : Cells) where
@@ -51,19 +50,6 @@ module _ (number : ℕ → ℕ → ℕ) (X : Cells) where
   below-done n l p = inr (record { no = λ x y h. let u = p .below x y h in omega arith }, λ i. 16)
 
 -- ---- rows
-
--- a word that is not 0 has a bit
-bit-of : (k n : ℕ) → n < 2 ^ k → (n ≡ 0 → ⊥) → (x : ℕ) × (bit n x ≡ 1)
-bit-of zero n l f = absurd (f (omega arith))
-bit-of (suc k) n l f = ⊎-elim
-    (λ w. let e : 2 ^ suc k ≡ 2 ^ k * 2 = pow-suc 2 k in
-    let g = bit-of k (n / 2) (omega arith) (λ z. f (omega arith)) in
-    (1 + g .0, sym (bit-shr n 1 (g .0)) ∙ g .1))
-    (λ w. (0, omega arith))
-    (below-or (n % 2) 1)
-
-pub row-cell : (a : List ℕ) → Rows16 a → (y : ℕ) → (getD a y 0 ≡ 0 → ⊥) → (x : ℕ) × At a x y
-row-cell a w y f = bit-of 16 (getD a y 0) (w .words y) f
 
 pub row-clear : (a : List ℕ) (n : ℕ) → getD a n 0 ≡ 0 → Clear row (At a) n
 row-clear a n e = record { clear = λ x y h k. no-bit x (ap (λ (q : ℕ). bit q x) (sym e ∙ ap (λ (q : ℕ). getD a q 0) (sym k)) ∙ h) }

@@ -3,13 +3,13 @@ use borrow.Author.Needs.{needs}
 use native.Mathlib.Omega.{arith}
 use Prim.Native.Nat.{_≤_, _-_}
 use mathlib.Core.Path.{refl}
 use Rattle.rows.specs.Cells.{At}
-use Rattle.rows.specs.Leaves.{row}
 use Rattle.rows.proofs.Known.{rows16}
-use Rattle.rows.proofs.Sums.{in-y}
-use Rattle.rows.proofs.Extents.{From, from-none, from-more, from-found, from-done, row-cell, row-clear}
-use Rattle.rows.proofs.first_row.Statement.{statement}
-use Rattle.rows.proofs.first_row.Tie as tie
+use Rattle.rows.proofs.Sums.{in-y, row-cell}
+use Rattle.extents.proofs.Search.{From, from-none, from-more, from-found, from-done, row-clear}
+use Rattle.extents.proofs.first_row.Statement.{statement}
+use Rattle.extents.proofs.first_row.Tie as tie
+use Rattle.extents.specs.Extents.{row}
 
 abbrev Inv-loop : tie.InvT-loop
 Inv-loop a first₀ first = (first ≤ 16) × From row (At a) first

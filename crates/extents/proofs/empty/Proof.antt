@@ -1,10 +1,10 @@
 -- A row with a cell is found where there is one.
 use borrow.Author.Needs.{needs}
 use borrow.Author.Tests.{eqb-true, eqb-false}
 use Rattle.rows.proofs.Known.{rows16}
-use Rattle.rows.proofs.Extents.{first-none, first-some}
-use Rattle.rows.proofs.empty.Statement.{statement}
-use Rattle.rows.proofs.empty.Tie as tie
+use Rattle.extents.proofs.Search.{first-none, first-some}
+use Rattle.extents.proofs.empty.Statement.{statement}
+use Rattle.extents.proofs.empty.Tie as tie
 
 first-row-requires : tie.Need-first-row-requires
 first-row-requires c κs = search needs
