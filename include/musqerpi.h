@@ -20,8 +20,8 @@
  * A list is a pointer and its number of words. The pointer is never null and
  * is aligned for uint32_t; that of an empty list may be any such pointer. The
  * output must not overlap an input; the two inputs of a call may be the same.
- * An output of 17 words or more is enough for any shape list. Nothing is kept
- * after the call.
+ * An output of 17 words or more is enough for any shape list, one of 32 for any
+ * plan list. Nothing is kept after the call.
  */
 #ifndef MUSQERPI_H
 #define MUSQERPI_H
@@ -43,13 +43,23 @@ enum musq_ground {
     MUSQ_PLACE_FIELD = 6,    /* a place field is above 30 */
     MUSQ_STAGE_MASK = 7,     /* a mask isn't normal, has fewer than two cells, or falls */
     MUSQ_OUT_OF_RANGE = 8,   /* the points have w or h above 15, or x or y beyond -15 to 15 */
-    MUSQ_OUTPUT_LENGTH = 9,  /* the output has fewer words than needed: 17 for a shape */
+    MUSQ_OUTPUT_LENGTH = 9,  /* the output has fewer words than needed: 17 for a shape, 32 for a plan */
     MUSQ_NO_CHAIN = 10,      /* no chain exists */
     MUSQ_FRAME_SIZE = 11,    /* W or H isn't 1 to 240 */
     MUSQ_FRAME_LENGTH = 12,  /* the frame's length isn't W x H */
     MUSQ_CELL_VALUE = 13,    /* a cell is above 1 */
     MUSQ_IMAGE_LENGTH = 14   /* a work image is too short */
 };
+
+/* Plans a shape: writes the plan with the fewest stages whose sum, moved by its
+ * offset, is exactly the shape's points; of several such, the one whose masks,
+ * compared in order, are smallest at the first difference.
+ * Grounds: 1, 2, 3, 4, 9, 10. Ground 10 says that no list of subsets of the
+ * 3x3 square, of any length and with any offset, sums to the shape.
+ * Writes the plan list to out and answers its length, 2 to 32; a refusal
+ * changes nothing. The search has no limit: most shapes take far less than a
+ * millisecond, but some with extents above 8 or so take hours and more. */
+int64_t musq_plan(const uint32_t *shape, size_t n, uint32_t *out, size_t out_n);
 
 /* Turns a plan back into a shape: its points are the plan's offset added to
  * the sum of its stages (one point if there are none).

@@ -9,7 +9,7 @@ static int wrong;
 /* The answer n and the words of out are those expected; the words past the list are as they were. */
 static void expect(const char *call, int64_t n, int64_t answer, const uint32_t *out, const uint32_t *words)
 {
-    uint32_t all[17];
+    uint32_t all[32];
     memset(all, 0xa5, sizeof all);
     if (answer > 0)
         memcpy(all, words, (size_t)answer * sizeof *words);
@@ -22,11 +22,16 @@ static void expect(const char *call, int64_t n, int64_t answer, const uint32_t *
 int main(void)
 {
     static const uint32_t row[] = {0x10000000, 0x2000000f};
+    static const uint32_t apart[] = {0x10000000, 0x20000009};
     static const uint32_t cell[] = {0x10000000, 0x20000001};
     static const uint32_t plan[] = {0x30000002, 0x40000f0f, 0x50000003, 0x50000005};
     static const uint32_t moved[] = {0x10000010, 0x200001e0};
-    uint32_t out[17];
+    uint32_t out[32];
 
+    memset(out, 0xa5, sizeof out);
+    expect("musq_plan, short", musq_plan(row, 2, out, 31), -MUSQ_OUTPUT_LENGTH, out, plan);
+    expect("musq_plan, no chain", musq_plan(apart, 2, out, 32), -MUSQ_NO_CHAIN, out, plan);
+    expect("musq_plan", musq_plan(row, 2, out, 32), 4, out, plan);
     memset(out, 0xa5, sizeof out);
     expect("musq_shape_of_plan, cut", musq_shape_of_plan(plan, 3, out, 17), -MUSQ_STAGE_COUNT, out, row);
     expect("musq_shape_of_plan", musq_shape_of_plan(plan, 4, out, 17), 2, out, row);

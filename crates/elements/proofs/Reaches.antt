@@ -6,7 +6,8 @@ use Prim.Native.Nat.{ℕ, _-_, _≤_}
 use native.Mathlib.Omega.{arith}
 use lib.Dec.{T}
 use Rattle.rows.specs.Cells.{Cells}
-use Rattle.extents.specs.Extents.{Greatest, SomeCell, Least, FirstOf, LastOf, row, column}
+use Rattle.extents.specs.Extents.{SomeCell, Least, LastOf, row, column}
+use Rattle.extents.proofs.Search.{last-at}
 use Rattle.elements.specs.Standing.{Within}
 
 -- a test has one answer
@@ -20,14 +21,6 @@ answer-no q = (λ e. absurd (subst T (sym e) tt), λ _. q)
 pub last-le : (number : ℕ → ℕ → ℕ) (X : Cells) (n : ℕ) → LastOf number X n → (x y : ℕ) → X x y → number x y ≤ n
 last-le number X n (inl g) x y c = g .all x y c
 last-le number X n (inr e) x y c = absurd (e .0 .no x y c)
-
-pub last-at : (number : ℕ → ℕ → ℕ) (X : Cells) (n : ℕ) → LastOf number X n → SomeCell X → Greatest number X n
-last-at number X n (inl g) s = g
-last-at number X n (inr e) s = absurd (e .0 .no (s .x) (s .y) (s .cell))
-
-pub first-at : (number : ℕ → ℕ → ℕ) (X : Cells) (n : ℕ) → FirstOf number X n → SomeCell X → Least number X n
-first-at number X n (inl g) s = g
-first-at number X n (inr e) s = absurd (e .0 .no (s .x) (s .y) (s .cell))
 
 -- two least numbers are one
 pub least-once : (number : ℕ → ℕ → ℕ) (X : Cells) (m n : ℕ) → Least number X m → Least number X n → m ≡ n

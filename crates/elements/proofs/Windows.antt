@@ -88,7 +88,7 @@ below-at x = ⊎-elim
 
 module _ (s : Shape) (w : Rows16 (s .rows)) (S : Sound s) where
   -- the least x and the least y are those of the place
-  corner-is : corner (pointsOf s) ≡ place s
+  pub corner-is : corner (pointsOf s) ≡ place s
   unfolding _+ᵖ_
   corner-is = λ t. (
     one x-of (s .x) (λ p h. let c = points-of s w p .0 h in (c .x, ap x-of (sym (c .at)))) (start-x .0) (start-x .1) (start-x .2) t,

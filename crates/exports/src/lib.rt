@@ -2,6 +2,7 @@
 // An answer is the result, or −N for refusal N; what it and the lent words are is said by the call that each stands for.
 ghost use mathlib.Core.Path.{_≡_};
 ghost use Rattle.shapes.specs.Calls.{Moved, Joined, Summed, TurnedBack};
+ghost use Rattle.planning.specs.Planning.{Planned};
 ghost use Rattle.exports.specs.Numbers.{signedOf, Stands};
 use words::Answer;
 
@@ -13,6 +14,14 @@ fn signed(a: Answer) -> i64
         Answer::Done(n) => n as i64,
         Answer::Refused(g) => -(words::number(g) as i64),
     }
+}
+
+// Planning a shape.
+#[no_mangle]
+pub extern "C" fn musq_plan(shape: &[u32], out: &mut [u32]) -> i64
+    ensures { λ r. ⌜ Stands r (λ a. Planned (now (shape .entry)) (now (out .entry)) a (now (out .exit))) ⌝ }
+{
+    signed(planner::plan(shape, out))
 }
 
 // Turning a plan back into a shape list.

@@ -8,7 +8,7 @@ use native.Mathlib.Omega.{arith}
 use lib.Bits.{bitOr}
 use lib.ListN.{getD}
 use Rattle.rows.specs.Cells.{Cells, At, bit}
-use Rattle.extents.specs.Extents.{NoCell, SomeCell, FirstOf, LastOf, Columns, row, column}
+use Rattle.extents.specs.Extents.{NoCell, SomeCell, Least, Greatest, FirstOf, LastOf, Columns, row, column}
 use Rattle.rows.proofs.RowBits.{no-bit}
 use Rattle.rows.proofs.Fill.{below-or}
 use Rattle.rows.proofs.Shifts.{or-on, on-or-l, on-or-r}
@@ -103,3 +103,12 @@ first-none a n w h e = ⊎-elim (λ l. absurd (let q = in-y a w (l .x) (l .y) (l
 
 pub first-some : (X : Cells) (n : ℕ) → FirstOf row X n → (n ≡ 16 → ⊥) → SomeCell X
 first-some X n h f = ⊎-elim (λ l. record { x = l .x; y = l .y; cell = l .cell }) (λ g. absurd (f (g .1))) h
+
+-- where there is a cell, the first and the last number are its least and its greatest
+pub last-at : (number : ℕ → ℕ → ℕ) (X : Cells) (n : ℕ) → LastOf number X n → SomeCell X → Greatest number X n
+last-at number X n (inl g) s = g
+last-at number X n (inr e) s = absurd (e .0 .no (s .x) (s .y) (s .cell))
+
+pub first-at : (number : ℕ → ℕ → ℕ) (X : Cells) (n : ℕ) → FirstOf number X n → SomeCell X → Least number X n
+first-at number X n (inl g) s = g
+first-at number X n (inr e) s = absurd (e .0 .no (s .x) (s .y) (s .cell))

@@ -1,89 +1,35 @@
--- Stages and their extents by arithmetic on the mask: one test, computed over the 512 masks and carried to each. So ground 7 is tried word by word, and
--- ground 8 of a plan is decided from the sums of the extents and the place fields.
+-- Ground 7 is tried word by word, and ground 8 of a plan is decided from the sums of the stages' extents and the place fields.
 use mathlib.Core.Path.{_≡_, refl, sym, _∙_, ap, ap₂, subst}
-use mathlib.Core.Bool.{Bool, true, false, not, cond, _&&_, _||_}
-use mathlib.Core.Logic.{_⊎_, inl, inr}
+use mathlib.Core.Bool.{Bool, true, false, not, _||_}
 use mathlib.Core.List.{List, [], _∷_, map}
-use Prim.Native.Nat.{ℕ, _+_, _/_, _%_, _≤_, _<_}
-use native.Mathlib.Omega.{arith}
+use Prim.Native.Nat.{ℕ, _+_, _≤_, _<_}
 use native.Mathlib.Numerals.{add-one}
-use lib.Dec.{T, ltb, leb, eqb, eqb→eq}
+use lib.Dec.{T, ltb}
 use lib.ListN.{length, getD, drop, drop-of-length-le}
 use lib.Seq.{drop-cons}
 use Rattle.plane.specs.Extent.{x-of, y-of}
-use Rattle.plane.specs.Lists.{all, any, anyNext, upTo, In}
+use Rattle.plane.specs.Lists.{all, any, anyNext, In}
 use Rattle.plane.proofs.Extents.{x-adds, y-adds}
-use Rattle.plane.proofs.Member.{each-below, not-all-map, next-map, any-same}
-use Rattle.plane.proofs.Tests.{T-and, T-or, clash}
+use Rattle.plane.proofs.Member.{not-all-map, next-map}
+use Rattle.plane.proofs.Tests.{T-and}
 use Rattle.words.specs.Word.{placeX, placeY, stageMask}
 use Rattle.masks.specs.Chain.{PlanOf}
 use Rattle.masks.specs.Mask.{stage}
 use Rattle.masks.proofs.Bounds.{along, total, plan-extent, forced}
-use Rattle.masks.proofs.Cells.{stage-below}
+use Rattle.stages.specs.Reach.{reach}
+use Rattle.stages.proofs.Stages.{reach-is}
 use Rattle.shapes.specs.Plan.{planMasks, planOffset, planPoints, wrongMasks}
 use Rattle.shapes.specs.Shape.{outOfRange}
 use Rattle.shapes.proofs.Range.{range-is, biased-offside}
 use Rattle.shapes.proofs.Written.{plan-itself}
-use Rattle.grounds.specs.Leaves.{noStage, falls, lastRow, lastColumn, reach, extentOf}
+use Rattle.grounds.specs.Leaves.{falls, extentOf}
 use Rattle.plane.specs.Point.{Point}
-
--- ---- one mask
-
-agree : Bool → Bool → Bool
-agree true b = b
-agree false b = not b
-
-agree-eq : (a b : Bool) → T (agree a b) → a ≡ b
-unfolding agree
-agree-eq true true t = refl
-agree-eq true false t = absurd t
-agree-eq false true t = absurd t
-agree-eq false false t = refl
-
--- the test of a stage is right, and a stage's extents are its last column and its last row
-right : ℕ → Bool
-unfolding along stage agree
-right m = agree (not (stage m)) (noStage m) && (not (stage m) || eqb (lastColumn m) (along x-of m) && eqb (lastRow m) (along y-of m))
-
-right-table : T (all right (upTo 512))
-unfolding right
-right-table = tt
-
-pub no-stage-is : (m : ℕ) → m < 512 → not (stage m) ≡ noStage m
-unfolding right
-no-stage-is m h = agree-eq (not (stage m)) (noStage m) (T-and (agree (not (stage m)) (noStage m)) _ .0 (each-below right 512 right-table m h) .0)
-
-pub reach-is : (m : ℕ) → T (stage m) → (reach false m ≡ along x-of m) × (reach true m ≡ along y-of m)
-unfolding right
-reach-is m t = go (T-or (not (stage m)) _ .0 (T-and (agree (not (stage m)) (noStage m)) _ .0 (each-below right 512 right-table m (stage-below m t)) .1))
-  where
-    go : T (not (stage m)) ⊎ T (eqb (lastColumn m) (along x-of m) && eqb (lastRow m) (along y-of m)) → (lastColumn m ≡ along x-of m) × (lastRow m ≡ along y-of m)
-    go (inl n) = absurd (clash (stage m) n t)
-    go (inr a) =
-        let u = T-and (eqb (lastColumn m) (along x-of m)) (eqb (lastRow m) (along y-of m)) .0 a in
-        (eqb→eq (lastColumn m) (along x-of m) (u .0), eqb→eq (lastRow m) (along y-of m) (u .1))
-
-pub reach-small : (down : Bool) (m : ℕ) → reach down m ≤ 2
-reach-small down m = go down
-  where
-    low : (a b : Bool) → cond a 2 (cond b 1 0) ≤ 2
-    low true b = omega arith
-    low false true = omega arith
-    low false false = omega arith
-
-    go : (down : Bool) → reach down m ≤ 2
-    go true = low (leb 64 m) (leb 8 m)
-    go false = low (ltb 0 (m / 4 % 2 + m / 32 % 2 + m / 256 % 2)) (ltb 0 (m / 2 % 2 + m / 16 % 2 + m / 128 % 2))
 
 -- ---- ground 7
 
 -- word by word: some mask is no stage, or some mask is below the one before
-pub masks-tried : (ws : List ℕ) → wrongMasks (planMasks ws) ≡ (any (λ w. noStage (stageMask w)) (drop 2 ws) || anyNext falls (drop 2 ws))
-masks-tried ws = ap₂ (λ a b. a || b) (not-all-map stageMask stage (drop 2 ws) ∙ any-same _ _ (drop 2 ws) (λ w. no-stage-is (stageMask w) (below w)))
-    (next-map stageMask (λ a b. ltb b a) (drop 2 ws))
-  where
-    below : (w : ℕ) → w % 512 < 512
-    below w = omega arith
+pub masks-tried : (ws : List ℕ) → wrongMasks (planMasks ws) ≡ (any (λ w. not (stage (stageMask w))) (drop 2 ws) || anyNext falls (drop 2 ws))
+masks-tried ws = ap₂ (λ a b. a || b) (not-all-map stageMask stage (drop 2 ws)) (next-map stageMask (λ a b. ltb b a) (drop 2 ws))
 
 -- ---- the sums of the extents
 

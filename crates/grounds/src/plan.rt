@@ -3,15 +3,16 @@ use super::lists;
 use words::Answer;
 use words::Ground;
 ghost use mathlib.Core.Path.{_≡_};
-ghost use mathlib.Core.Bool.{false};
+ghost use mathlib.Core.Bool.{false, not};
 ghost use Prim.Native.Nat.{_≤_};
 ghost use lib.ListN.{length, drop};
 ghost use Rattle.plane.specs.Lists.{any, anyNext};
 ghost use Rattle.words.specs.Ground.{stated, refusal, firstOf};
 ghost use Rattle.words.specs.Word.{stageMask};
+ghost use Rattle.masks.specs.Mask.{stage};
 ghost use Rattle.shapes.specs.Shape.{outOfRange};
 ghost use Rattle.shapes.specs.Plan.{planTests, wrongPlanKinds, wrongPlanBits, wrongCount, wrongPlace, wrongMasks, planMasks, planPoints};
-ghost use Rattle.grounds.specs.Leaves.{noStage, falls, reach, extentOf};
+ghost use Rattle.grounds.specs.Leaves.{falls, extentOf};
 
 // Ground 2: whether the first word is no head, the second no place, or some other no stage.
 pub(crate) fn wrong_kinds(ws: &[u32]) -> bool
@@ -61,26 +62,13 @@ pub(crate) fn wrong_place(ws: &[u32]) -> bool
     ws[1] / 256 % 256 > 30
 }
 
-// Whether a mask is no stage: row 0 or column 0 is empty, or it is the one normal mask of one cell.
-fn no_stage(mask: u32) -> bool
-    ensures { λ r. ⌜ r ≡ noStage mask ⌝ }
-{
-    if mask % 8 == 0 {
-        return true;
-    }
-    if mask % 2 + mask / 8 % 2 + mask / 64 % 2 == 0 {
-        return true;
-    }
-    mask == 1
-}
-
 // Whether some mask is no stage.
 fn some_no_stage(ws: &[u32]) -> bool
-    ensures { λ r. ⌜ r ≡ any (λ w. noStage (stageMask w)) (drop 2 (now (ws .entry))) ⌝ }
+    ensures { λ r. ⌜ r ≡ any (λ w. not (stage (stageMask w))) (drop 2 (now (ws .entry))) ⌝ }
 {
     let mut i: usize = 2;
     while i < ws.len() {
-        if no_stage(ws[i] % 512) {
+        if !stages::is_stage(ws[i] % 512) {
             return true;
         }
         i += 1;
@@ -112,28 +100,6 @@ pub(crate) fn wrong_masks(ws: &[u32]) -> bool
     falling(ws)
 }
 
-// How far a mask goes from 0: its last row with a cell where down, else its last column with one.
-fn reach(mask: u32, down: bool) -> u32
-    ensures { λ r. ⌜ r ≡ reach down mask ⌝ }
-{
-    if down {
-        if mask >= 64 {
-            return 2;
-        }
-        if mask >= 8 {
-            return 1;
-        }
-        return 0;
-    }
-    if mask / 4 % 2 + mask / 32 % 2 + mask / 256 % 2 > 0 {
-        return 2;
-    }
-    if mask / 2 % 2 + mask / 16 % 2 + mask / 128 % 2 > 0 {
-        return 1;
-    }
-    0
-}
-
 // How far the sum of the stages goes from 0: the sum of their reaches.
 fn extent(ws: &[u32], down: bool) -> u32
     requires { ⌜ length (now ws) ≤ 32 ⌝ }
@@ -142,7 +108,7 @@ fn extent(ws: &[u32], down: bool) -> u32
     let mut sum: u32 = 0;
     let mut i: usize = 2;
     while i < ws.len() {
-        sum += reach(ws[i] % 512, down);
+        sum += stages::reach(ws[i] % 512, down);
         i += 1;
     }
     sum

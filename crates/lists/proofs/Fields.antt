@@ -49,9 +49,9 @@ no-stage (Unused k) h = refl
 
 -- ---- the fields of a word
 
--- a row of the window, and a mask
+-- a cell of the window, a row of it, and a mask
 abbrev Small : Word → Type 0
-Small (Anchor ax ay) = Unit {0}
+Small (Anchor ax ay) = (ax < 16) × (ay < 16)
 Small (Row y columns) = y < 16
 Small (Head n) = Unit {0}
 Small (Place x y) = Unit {0}
@@ -64,9 +64,10 @@ pick-ind false x y p q = q
 
 small : (w : ℕ) → Small (wordOf w)
 small w =
+    let a : (w % 2 ^ 4 < 16) × (w / 2 ^ 4 % 2 ^ 4 < 16) = (omega arith, omega arith) in
     let y : w / 2 ^ 16 % 2 ^ 4 < 16 = omega arith in
     let m : w % 2 ^ 9 < 512 = omega arith in
-    pick-ind (eqb (kind w) anchorKind) (Anchor (anchorX w) (anchorY w)) _ tt
+    pick-ind (eqb (kind w) anchorKind) (Anchor (anchorX w) (anchorY w)) _ a
     (pick-ind (eqb (kind w) rowKind) (Row (rowY w) (rowBits w)) _ y
     (pick-ind (eqb (kind w) headKind) (Head (headCount w)) _ tt
     (pick-ind (eqb (kind w) placeKind) (Place (placeX w) (placeY w)) _ tt
@@ -77,3 +78,17 @@ row-small w y c e = subst Small e (small w)
 
 pub stage-small : (w m : ℕ) → wordOf w ≡ Stage m → m < 512
 stage-small w m e = subst Small e (small w)
+
+pub anchor-small : (w : ℕ) → (anchorIn (wordOf w) .0 < 16) × (anchorIn (wordOf w) .1 < 16)
+anchor-small w = go (wordOf w) (small w)
+  where
+    none : (0 < 16) × (0 < 16)
+    none = (omega arith, omega arith)
+
+    go : (v : Word) → Small v → (anchorIn v .0 < 16) × (anchorIn v .1 < 16)
+    go (Anchor ax ay) h = h
+    go (Row y columns) h = none
+    go (Head n) h = none
+    go (Place x y) h = none
+    go (Stage m) h = none
+    go (Unused k) h = none

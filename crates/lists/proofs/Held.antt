@@ -1,13 +1,11 @@
 -- A list whose words are of the kinds that their places call for holds what the definitions of shape lists and plan lists say that it stands for.
-use mathlib.Core.Path.{_≡_, sym, ap, subst, _∙_}
-use mathlib.Core.Logic.{_↔_}
+use mathlib.Core.Path.{_≡_, ap, _∙_}
 use mathlib.Core.Bool.{not, _||_}
 use mathlib.Core.List.{List, map}
 use Prim.Native.Nat.{ℕ}
 use lib.Dec.{T, eqb, eqb→eq}
 use lib.ListN.{getD}
-use Rattle.plane.specs.Lists.{In, any, upTo, bits}
-use Rattle.plane.specs.Point.{Cell}
+use Rattle.plane.specs.Lists.{any, upTo, bits}
 use Rattle.plane.proofs.Member.{no-any, upTo-In}
 use Rattle.plane.proofs.Tests.{not-or, un-not}
 use Rattle.words.specs.Read.{readAs, wordOf}
@@ -38,9 +36,6 @@ module _ (ws : List ℕ) (t : T (not (wrongShapeKinds ws))) where
   pub held-list : heldCells ws ≡ shapeCells ws
   unfolding cellsFrom shapeCells
   held-list = flat-alike _ _ (rows ws) (λ w h. row-held w (no-any (wrongKind rowKind) (rows ws) (shape-kinds .1) w h))
-
-  pub held-cells : (c : Cell) → In (heldCells ws) c ↔ In (shapeCells ws) c
-  held-cells c = (subst (λ cs. In cs c) held-list, subst (λ cs. In cs c) (sym held-list))
 
   pub held-anchor : heldAnchor ws ≡ anchor ws
   held-anchor = ap anchorIn (read-as anchorKind (getD ws 0 0) (shape-kinds .0))

@@ -99,6 +99,10 @@ not-smaller (a ∷ ms) (b ∷ ns) t = go (T-or (ltb a b) (eqb a b && notAbove ms
         let q = eqb→eq a b (u .0) in
         both (not-ltb b a (omega arith)) (λ _. ih (u .1))
 
+-- what is no shorter does not come before, where it is not smaller either
+pub not-before-tied : (ms ns : List ℕ) → length ms ≤ length ns → (length ns ≡ length ms → T (not (smaller ns ms))) → T (not (before ns ms))
+not-before-tied ms ns h f = not-before ns ms .1 (h, f)
+
 -- a longer list does not come before, nor does one that is above
 pub not-before-longer : (ms ns : List ℕ) → length ms < length ns → T (not (before ns ms))
 not-before-longer ms ns h = not-before ns ms .1 (omega arith, λ e. absurd (omega arith))

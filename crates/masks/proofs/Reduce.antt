@@ -162,6 +162,17 @@ unfolding sort
 sort-length [] = refl
 sort-length (m ∷ ms) = insert-length m (sort ms) ∙ ap suc (sort-length ms)
 
+-- any list of masks put in order: the same permitted ones, as many, with the same sum
+pub record Ordered (permitted : ℕ → Bool) (ms : List ℕ) : Type 0 where
+  pub masks : List ℕ
+  pub allowed : T (all permitted masks)
+  pub sorted : T (not (falling masks))
+  pub count : length masks ≡ length ms
+  pub sum : In (sumOf ms) ≐ In (sumOf masks)
+
+pub in-order : (permitted : ℕ → Bool) (ms : List ℕ) → T (all permitted ms) → Ordered permitted ms
+in-order permitted ms t = record { masks = sort ms; allowed = sort-all permitted ms t; sorted = sort-sorted ms; count = sort-length ms; sum = sort-sum ms }
+
 -- ---- a chain of a set that has a point gives a plan of it, with no more stages
 
 pub record Short (S : PointSet) (k : ℕ) : Type 0 where
@@ -177,12 +188,15 @@ shorten S p s c = go (reduce (c .members) (c .masks))
     go (inl f) = absurd (f (p -ᵖ c .offset) (c .sum p .0 s))
     go (inr r) = record {
       offset = c .offset +ᵖ r .offset;
-      stages = sort (r .stages);
+      stages = o .masks;
       plan = record {
-        stages = sort-all stage (r .stages) (r .all-stages);
-        sorted = sort-sorted (r .stages);
-        sum = let inner = ≐-trans (r .sum) (moved-cong (r .offset) (sort-sum (r .stages))) in
-            ≐-trans (c .sum) (≐-trans (moved-cong (c .offset) inner) (moved-moved (c .offset) (r .offset) (In (sumOf (sort (r .stages))))));
+        stages = o .allowed;
+        sorted = o .sorted;
+        sum = let inner = ≐-trans (r .sum) (moved-cong (r .offset) (o .sum)) in
+            ≐-trans (c .sum) (≐-trans (moved-cong (c .offset) inner) (moved-moved (c .offset) (r .offset) (In (sumOf (o .masks)))));
       };
-      count = subst (λ n. n ≤ length (c .members)) (sym (sort-length (r .stages))) (r .count);
+      count = subst (λ n. n ≤ length (c .members)) (sym (o .count)) (r .count);
     }
+      where
+        o : Ordered stage (r .stages)
+        o = in-order stage (r .stages) (r .all-stages)

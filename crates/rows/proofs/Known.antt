@@ -2,7 +2,7 @@
 use mathlib.Core.Path.{_≡_, refl, ap, subst}
 use mathlib.Core.List.{List, [], _∷_, map}
 use Prim.Native.Nat.{ℕ, zero, suc, _^_, _<_}
-use lib.ListN.{getD}
+use lib.ListN.{getD, length}
 use lib.Pow.{pow-pos}
 use mir.Syntax.{Width, w16}
 use Rattle.rows.proofs.Sums.{Rows16}
@@ -30,3 +30,11 @@ same-map (x ∷ xs) = ap (λ (l : List ℕ). x ∷ l) (same-map xs)
 -- and of one in a struct's field
 pub field16 : (xs : List ℕ) (vs : List Val) → shadow (inArray ℕ (UInt w16 .own) 16 (map (λ (v : ℕ). v) xs) vs) → Rows16 xs
 field16 xs vs h = subst Rows16 (same-map xs) (rows16 (map (λ (v : ℕ). v) xs) vs h)
+
+-- the length of an array in a struct's field
+pub field-length : (n : ℕ) (xs : List ℕ) → length (map (λ (v : ℕ). v) xs) ≡ n → length xs ≡ n
+field-length n xs h = subst (λ (l : List ℕ). length l ≡ n) (same-map xs) h
+
+-- an element of one
+pub field-below : (n : ℕ) (xs : List ℕ) (vs : List Val) → shadow (inArray ℕ (UInt w16 .own) n (map (λ (v : ℕ). v) xs) vs) → (i : ℕ) → getD xs i 0 < 65536
+field-below n xs vs h i = subst (λ (l : List ℕ). getD l i 0 < 65536) (same-map xs) (array-below w16 (map (λ (v : ℕ). v) xs) (h .0) (h .1 .1) i)

@@ -2,20 +2,18 @@
 // Each first tries the grounds of the lists that it reads, then makes the new shape, and then tries grounds 8 and 9 before it writes a word.
 ghost use mathlib.Core.Path.{_≡_};
 ghost use Rattle.words.specs.Ground.{firstOf};
-ghost use Rattle.shapes.specs.Shape.{shapePoints, shapeTests};
 ghost use Rattle.shapes.specs.Plan.{planPoints, planTests};
 ghost use Rattle.shapes.specs.Calls.{ListAnswered, Moved, Joined, Summed, TurnedBack};
-ghost use Rattle.elements.specs.Standing.{pointsOf};
-ghost use Rattle.shaping.specs.Steps.{StandsFor, Returned, writingTests};
+ghost use Rattle.elements.specs.Standing.{pointsOf, Made};
+ghost use Rattle.shaping.specs.Steps.{heldPoints, SomeHeld, StandsFor, Returned, writingTests};
 use elements::Shape;
 use elements::Window;
 use words::Answer;
 use words::Ground;
 
-// The shape that an accepted list stands for.
-fn read_shape(ws: &[u32]) -> Shape
-    requires { ⌜ firstOf (shapeTests (now ws)) ≡ 0 ⌝ }
-    ensures { λ r. ⌜ StandsFor (shapePoints (now (ws .entry))) r ⌝ }
+// The shape of the points that a list holds, which for an accepted list are those that it stands for; no shape where they are none.
+pub fn read_shape(ws: &[u32]) -> Shape
+    ensures { λ r. ⌜ Made (SomeHeld (now (ws .entry))) (heldPoints (now (ws .entry))) r ⌝ }
 {
     let anchor = lists::read_anchor(ws);
     let rows = lists::read_rows(ws);

@@ -5,7 +5,7 @@ use borrow.Author.Needs.{needs}
 use Rattle.elements.proofs.sum.Statement.{statement}
 use Rattle.elements.proofs.Made.{made-far}
 use Rattle.elements.proofs.Summing.{not-low-x, not-low-y, fits-in, summed-near, summed-far}
-use Rattle.elements.proofs.Reaches.{last-at}
+use Rattle.extents.proofs.Search.{last-at}
 use Rattle.rows.specs.Cells.{At}
 use Rattle.rows.proofs.Known.{field16, rows16}
 use Rattle.elements.proofs.Stands.{some, sound-cell}

@@ -4,7 +4,8 @@ use native.Mathlib.Omega.{arith}
 use borrow.Author.Needs.{needs}
 use borrow.Author.Tests.{leb-true, leb-false}
 use Rattle.rows.specs.Cells.{At}
-use Rattle.elements.proofs.Reaches.{answer-no, within-yes, within-no, last-at}
+use Rattle.extents.proofs.Search.{last-at}
+use Rattle.elements.proofs.Reaches.{answer-no, within-yes, within-no}
 use Rattle.elements.proofs.within.Statement.{statement}
 use Rattle.elements.proofs.within.Tie as tie
 use Rattle.extents.specs.Extents.{column}

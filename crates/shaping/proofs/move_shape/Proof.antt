@@ -6,6 +6,7 @@ use mathlib.Core.Path.{refl, subst}
 use borrow.Author.Needs.{needs}
 use Rattle.shaping.proofs.move_shape.Statement.{statement}
 use Rattle.shaping.proofs.Tested.{refused-first, no-refusal}
+use Rattle.shaping.proofs.Reading.{shape-read}
 use Rattle.shaping.proofs.Calls.{made-returned, map-points, shape-clear, list-made}
 use Rattle.words.proofs.Refusals.{answered-rest}
 use Rattle.elements.specs.Standing.{Made, Sound, pointsOf}
@@ -30,17 +31,18 @@ enum-told : tie.Need-enum-told
 enum-told c = search needs
 
 read-shape-requires : tie.Need-read-shape-requires
-read-shape-requires c κs =
-    let t = c .before .before .shape-refusal in
-    no-refusal (t .result) _ (c .before .match .keys2) (t .ensures)
+read-shape-requires c κs = search needs
 
 moved-requires : tie.Need-moved-requires
 moved-requires c κs = search needs
 
 write-shape-requires : tie.Need-write-shape-requires
 write-shape-requires c κs =
+    let k = c .before .before .before .before in
+    let g = k .before .shape-refusal in
     let s = c .before .before .read-shape in
-    made-returned _ (s .ensures .sound) _ (c .before .moved .result) (c .before .moved .ensures)
+    let S = shape-read (k .before .before .before .before .args .ws .now) (no-refusal (g .result) _ (k .match .keys2) (g .ensures)) (s .result) (s .ensures) in
+    made-returned _ (S .sound) _ (c .before .moved .result) (c .before .moved .ensures)
 
 same-length : tie.Need-same-length
 same-length c = search needs
@@ -56,11 +58,12 @@ returns-2 c =
     let ws = a .ws .now in
     let z = no-refusal (t .result) _ (k .match .keys2) (t .ensures) in
     let w = c .before .before .write-shape in
+    let S = shape-read ws z (s .result) (s .ensures) in
     let M = subst (λ (d : Point). Made (Sound (s .result)) (map (λ p. p +ᵖ d) (pointsOf (s .result))) (m .result))
     (λ i. (toZ-ofZ w32 (a .dx) (st .fits .dx) i, toZ-ofZ w32 (a .dy) (st .fits .dy) i)) (m .ensures) in
-    let e = map-points (λ p. p +ᵖ (a .dx, a .dy)) (pointsOf (s .result)) (shapePoints ws) (s .ensures .points) in
+    let e = map-points (λ p. p +ᵖ (a .dx, a .dy)) (pointsOf (s .result)) (shapePoints ws) (S .points) in
     answered-rest (shapeTests ws) _ (w .result) (shape-clear ws z)
-    (list-made (Sound (s .result)) (s .ensures .sound) _ (m .result) M (movedPoints ws (a .dx, a .dy)) (a .out .now) (w .result) _ e (w .ensures))
+    (list-made (Sound (s .result)) (S .sound) _ (m .result) M (movedPoints ws (a .dx, a .dy)) (a .out .now) (w .result) _ e (w .ensures))
 
 pub move-shape-spec : {M : Type 1} → statement M
 move-shape-spec =

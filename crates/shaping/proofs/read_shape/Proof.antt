@@ -1,8 +1,7 @@
--- The cells and the anchor that the list holds are the shape of its points.
+-- The cells and the anchor that the list holds, as a window.
 use borrow.Author.Needs.{needs}
 use Rattle.shaping.proofs.read_shape.Statement.{statement}
-use Rattle.shaping.proofs.Reading.{shape-read}
-use Rattle.shaping.proofs.Calls.{shape-clear}
+use Rattle.shaping.proofs.Reading.{held-made}
 use Rattle.rows.proofs.Known.{rows16}
 use Rattle.shaping.proofs.read_shape.Tie as tie
 
@@ -21,7 +20,7 @@ returns c =
     let ws = st .args .ws .now in
     let a = c .before .before .read-anchor in
     let r = c .before .read-rows in
-    shape-read ws (shape-clear ws (st .pre)) (record { ax = a .result .x; ay = a .result .y; rows = r .result }) (rows16 (r .result) _ (r .ok)) (a .ensures .0) (a .ensures .1)
+    held-made ws (record { ax = a .result .x; ay = a .result .y; rows = r .result }) (rows16 (r .result) _ (r .ok)) (a .ensures .0) (a .ensures .1)
     (r .ensures) (c .from-window .result) (c .from-window .ensures)
 
 pub read-shape-spec : {M : Type 1} → statement M

@@ -3,7 +3,7 @@ use native.Mathlib.Omega.{arith}
 use borrow.Author.Needs.{needs}
 use Rattle.elements.proofs.Shape.from_window.Statement.{statement}
 use Rattle.elements.proofs.Windows.{from-made, least-x, least-y}
-use Rattle.elements.proofs.Reaches.{first-at}
+use Rattle.extents.proofs.Search.{first-at}
 use Rattle.rows.specs.Cells.{At}
 use Rattle.rows.proofs.Known.{field16, rows16}
 use Rattle.elements.proofs.Made.{made-none}

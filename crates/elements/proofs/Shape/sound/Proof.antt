@@ -3,7 +3,8 @@ use mathlib.Core.Path.{subst}
 use borrow.Author.Needs.{needs}
 use borrow.Author.Tests.{not-true, not-false}
 use Rattle.rows.proofs.Known.{field16}
-use Rattle.elements.proofs.Reaches.{answer-no, first-at, least-once, one-answer}
+use Rattle.extents.proofs.Search.{first-at}
+use Rattle.elements.proofs.Reaches.{answer-no, least-once, one-answer}
 use Rattle.elements.proofs.Shape.sound.Statement.{statement}
 use Rattle.rows.specs.Cells.{At}
 use Rattle.extents.specs.Extents.{FirstOf, row, column}

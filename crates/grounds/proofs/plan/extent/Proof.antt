@@ -6,7 +6,8 @@ use Prim.Native.Nat.{_+_, _*_, _-_, _≤_}
 use lib.ListN.{length, getD, drop}
 use Rattle.words.specs.Word.{stageMask}
 use Rattle.grounds.specs.Leaves.{extentOf}
-use Rattle.grounds.proofs.Stages.{reach-small, extent-one, extent-none}
+use Rattle.stages.proofs.Stages.{reach-small}
+use Rattle.grounds.proofs.Stages.{extent-one, extent-none}
 use Rattle.grounds.proofs.plan.extent.Statement.{statement}
 use Rattle.grounds.proofs.plan.extent.Tie as tie
 

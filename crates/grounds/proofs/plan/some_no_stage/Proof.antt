@@ -1,18 +1,19 @@
 -- The invariant: what is left to try from `i` on is what was left from the first stage on.
 use borrow.Author.Needs.{needs}
 use native.Mathlib.Omega.{arith}
-use mathlib.Core.Path.{_≡_, refl, sym, _∙_}
+use mathlib.Core.Path.{_≡_, refl, sym, _∙_, ap}
+use mathlib.Core.Bool.{not}
 use Prim.Native.Nat.{_-_}
 use lib.ListN.{length, drop}
 use Rattle.words.specs.Word.{stageMask}
-use Rattle.grounds.specs.Leaves.{noStage}
+use Rattle.masks.specs.Mask.{stage}
 use Rattle.plane.specs.Lists.{any}
 use Rattle.plane.proofs.Member.{any-hit, any-miss, any-end}
 use Rattle.grounds.proofs.plan.some_no_stage.Statement.{statement}
 use Rattle.grounds.proofs.plan.some_no_stage.Tie as tie
 
 abbrev Inv-loop : tie.InvT-loop
-Inv-loop ws i₀ i = any (λ w. noStage (stageMask w)) (drop 2 ws) ≡ any (λ w. noStage (stageMask w)) (drop i ws)
+Inv-loop ws i₀ i = any (λ w. not (stage (stageMask w))) (drop 2 ws) ≡ any (λ w. not (stage (stageMask w))) (drop i ws)
 
 abbrev μ-loop : tie.MeasureT-loop
 μ-loop ws i₀ i = length ws - i
@@ -20,20 +21,20 @@ abbrev μ-loop : tie.MeasureT-loop
 loop-holds : tie.Need-loop-holds Inv-loop μ-loop
 loop-holds c = refl
 
-mul-no-stage : tie.Need-mul-no-stage Inv-loop μ-loop
-mul-no-stage c = search needs
+mul-is-stage : tie.Need-mul-is-stage Inv-loop μ-loop
+mul-is-stage c = search needs
 
-shared-slice-read-no-stage : tie.Need-shared-slice-read-no-stage Inv-loop μ-loop
-shared-slice-read-no-stage c = search needs
+shared-slice-read-is-stage : tie.Need-shared-slice-read-is-stage Inv-loop μ-loop
+shared-slice-read-is-stage c = search needs
 
-no-stage-requires : tie.Need-no-stage-requires Inv-loop μ-loop
-no-stage-requires c κs = search needs
+is-stage-requires : tie.Need-is-stage-requires Inv-loop μ-loop
+is-stage-requires c κs = search needs
 
 returns : tie.Need-returns Inv-loop μ-loop
 returns c =
     let h = c .before .before .before .before .loop in
     let st = c .before .before .before .before .before .before .args in
-    sym (h .inv ∙ any-hit (st .ws .now) (h .i) 0 (λ w. noStage (stageMask w)) (omega arith) (sym (c .before .no-stage .ensures) ∙ c .if1 .taken))
+    sym (h .inv ∙ any-hit (st .ws .now) (h .i) 0 (λ w. not (stage (stageMask w))) (omega arith) (ap not (sym (c .before .is-stage .ensures)) ∙ c .if1 .taken))
 
 add-i : tie.Need-add-i Inv-loop μ-loop
 add-i c = search needs
@@ -45,13 +46,13 @@ loop-again : tie.Need-loop-again Inv-loop μ-loop
 loop-again c =
     let h = c .before .before .before .before .loop in
     let st = c .before .before .before .before .before .before .args in
-    h .inv ∙ any-miss (st .ws .now) (h .i) 0 (λ w. noStage (stageMask w)) (omega arith) (sym (c .before .no-stage .ensures) ∙ c .if1 .left)
+    h .inv ∙ any-miss (st .ws .now) (h .i) 0 (λ w. not (stage (stageMask w))) (omega arith) (ap not (sym (c .before .is-stage .ensures)) ∙ c .if1 .left)
 
 returns-2 : tie.Need-returns-2 Inv-loop μ-loop
 returns-2 c =
     let h = c .before .loop in
     let st = c .before .before .before .args in
-    sym (h .inv ∙ any-end (st .ws .now) (h .i) (λ w. noStage (stageMask w)) (c .loop-test .left))
+    sym (h .inv ∙ any-end (st .ws .now) (h .i) (λ w. not (stage (stageMask w))) (c .loop-test .left))
 
 pub some-no-stage-spec : {M : Type 1} → statement M
 some-no-stage-spec =
@@ -60,9 +61,9 @@ some-no-stage-spec =
     Inv-loop
     μ-loop
     loop-holds
-    mul-no-stage
-    shared-slice-read-no-stage
-    no-stage-requires
+    mul-is-stage
+    shared-slice-read-is-stage
+    is-stage-requires
     returns
     add-i
     loop-less

@@ -1,11 +1,13 @@
 -- The two tests in turn, word by word.
 use borrow.Author.Needs.{needs}
 use mathlib.Core.Path.{sym, _∙_}
+use mathlib.Core.Bool.{not}
 use lib.ListN.{drop}
 use Rattle.plane.specs.Lists.{any, anyNext}
 use Rattle.plane.proofs.Tests.{or-first, or-rest}
 use Rattle.words.specs.Word.{stageMask}
-use Rattle.grounds.specs.Leaves.{noStage, falls}
+use Rattle.masks.specs.Mask.{stage}
+use Rattle.grounds.specs.Leaves.{falls}
 use Rattle.grounds.proofs.Stages.{masks-tried}
 use Rattle.grounds.proofs.plan.wrong_masks.Statement.{statement}
 use Rattle.grounds.proofs.plan.wrong_masks.Tie as tie
@@ -17,7 +19,7 @@ returns : tie.Need-returns
 returns c =
     let ws = c .before .before .before .args .ws .now in
     let e = sym (c .before .some-no-stage .ensures) ∙ c .if1 .taken in
-    sym (masks-tried ws ∙ or-first (any (λ w. noStage (stageMask w)) (drop 2 ws)) (anyNext falls (drop 2 ws)) e)
+    sym (masks-tried ws ∙ or-first (any (λ w. not (stage (stageMask w))) (drop 2 ws)) (anyNext falls (drop 2 ws)) e)
 
 falling-requires : tie.Need-falling-requires
 falling-requires c κs = search needs
@@ -26,7 +28,7 @@ returns-2 : tie.Need-returns-2
 returns-2 c =
     let ws = c .before .before .before .before .args .ws .now in
     let e = sym (c .before .before .some-no-stage .ensures) ∙ c .before .if1 .left in
-    c .falling .ensures ∙ sym (masks-tried ws ∙ or-rest (any (λ w. noStage (stageMask w)) (drop 2 ws)) (anyNext falls (drop 2 ws)) e)
+    c .falling .ensures ∙ sym (masks-tried ws ∙ or-rest (any (λ w. not (stage (stageMask w))) (drop 2 ws)) (anyNext falls (drop 2 ws)) e)
 
 pub wrong-masks-spec : {M : Type 1} → statement M
 wrong-masks-spec = tie.close (tie.spec some-no-stage-requires returns falling-requires returns-2)

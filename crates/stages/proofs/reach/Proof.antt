@@ -1,8 +1,8 @@
 -- Each arm of `reach`, by the tests that lead to it.
 use borrow.Author.Needs.{needs}
 use borrow.Author.Tests.{le-leb, lt-leb, lt-ltb, le-ltb}
-use Rattle.grounds.proofs.plan.reach.Statement.{statement}
-use Rattle.grounds.proofs.plan.reach.Tie as tie
+use Rattle.stages.proofs.reach.Statement.{statement}
+use Rattle.stages.proofs.reach.Tie as tie
 
 returns : tie.Need-returns
 returns c = simp (c .before .if1 .taken, le-leb _ _ (c .if2 .taken))

@@ -1,0 +1,211 @@
+-- The measure is what document 01's form names: the remaining extents and the remaining stage numbers, doubled so that it falls from node to stage too.
+-- The invariant of node's loop: of k stages from m on, what completes the sum has none below `i`.
+use borrow.Author.Needs.{needs}
+use borrow.Author.Tests.{not-true, not-false}
+use mathlib.Core.Path.{_≡_, sym, subst, _∙_}
+use mathlib.Core.Bool.{Bool, true, false, true≢false, false≢true}
+use mathlib.Core.Logic.{⊎-elim}
+use native.Mathlib.Omega.{arith}
+use lib.Dec.{eqb→eq}
+use lib.ListN.{length, getD}
+use Rattle.plane.proofs.Tests.{eq-eqb}
+use Rattle.masks.proofs.Cells.{stage-below as mask-below}
+use Rattle.rows.specs.Cells.{At}
+use Rattle.rows.proofs.Known.{field-length}
+use Rattle.rows.proofs.Sums.{zero-at}
+use Rattle.search.specs.Tree.{Answer, Passed, tries}
+use Rattle.search.proofs.Answers.{at-leaf, passed-none, passed-more, passed-found, passed-all, below-none, below-closed, below-found}
+use Prim.Native.Nat.{ℕ, _+_, _*_, _-_, _≤_, _<_}
+use borrow.Fn.Kinds.{In}
+use borrow.Fn.PlainCycle.{Measures, is, falls, and}
+use Rattle.search.proofs.node.Reads as node
+use Rattle.search.proofs.node.Kinds as node-kinds
+use Rattle.search.proofs.+node+stage.Lts-node as node-lts
+use Rattle.search.proofs.stage.Reads as stage
+use Rattle.search.proofs.stage.Kinds as stage-kinds
+use Rattle.search.proofs.+node+stage.Lts-stage as stage-lts
+use Rattle.rows.proofs.same.Reads as same-reads
+use Rattle.search.proofs.tried.Reads as tried-reads
+use Rattle.search.proofs.+node+stage.{statement}
+use Rattle.search.proofs.+node+stage.Tie.{close}
+
+abbrev μ-node : Measures 1 node-kinds.ps ℕ
+μ-node κs a = (a .0 .w + a .0 .h + (512 - a .1 .1 .1 .0)) * 2 + 1
+
+abbrev μ-stage : Measures 1 stage-kinds.ps ℕ
+μ-stage κs a = (a .0 .w + a .0 .h + (512 - a .1 .1 .1 .0)) * 2
+
+abbrev node-at : ℕ → In 1 node-kinds.ps
+node-at t = and 1 node-kinds.ps (is 1 node-kinds.ps μ-node t) node.Pre
+
+abbrev node-below : ℕ → In 1 node-kinds.ps
+node-below t = and 1 node-kinds.ps (falls 1 node-kinds.ps _<_ μ-node t) node.Pre
+
+abbrev stage-at : ℕ → In 1 stage-kinds.ps
+stage-at t = and 1 stage-kinds.ps (is 1 stage-kinds.ps μ-stage t) stage.Pre
+
+abbrev stage-below : ℕ → In 1 stage-kinds.ps
+stage-below t = and 1 stage-kinds.ps (falls 1 stage-kinds.ps _<_ μ-stage t) stage.Pre
+
+abbrev node-claims : ℕ → node-lts.Claims
+node-claims t = (same-reads.Asked, same-reads.Learnt, stage-below t, stage.Post)
+
+abbrev stage-claims : ℕ → stage-lts.Claims
+stage-claims t = (tried-reads.Asked, tried-reads.Learnt, node-below t, node.Post)
+
+abbrev node-Inv-loop : node-lts.InvT-loop
+node-Inv-loop s marks k m i₀ i = (i ≤ 512) × Passed (tries marks) (At (s .target)) (At (s .sum)) k m i
+
+abbrev node-μ-loop : node-lts.MeasureT-loop
+node-μ-loop s marks k m i₀ i = 512 - i
+
+node-same-requires : (t : ℕ) → node-lts.Need-same-requires (node-claims t) (node-at t) node.Post node-Inv-loop node-μ-loop
+node-same-requires t c κs = search needs
+
+node-returns : (t : ℕ) → node-lts.Need-returns (node-claims t) (node-at t) node.Post node-Inv-loop node-μ-loop
+node-returns t c =
+    let st = c .before .before .before .before .before in
+    at-leaf (tries (st .args .marks .now)) (At (st .args .s .target)) (At (st .args .s .sum)) (st .args .k) (st .args .m) (c .same .result) _
+    (c .before .before .before .if1 .taken) (c .same .ensures .0) (c .same .ensures .1) (zero-at 32)
+
+node-loop-holds : (t : ℕ) → node-lts.Need-loop-holds (node-claims t) (node-at t) node.Post node-Inv-loop node-μ-loop
+node-loop-holds t c =
+    let st = c .before .before in
+    (omega arith, passed-none _ _ _ (st .args .k) (st .args .m) (omega arith))
+
+node-cast-if2 : (t : ℕ) → node-lts.Need-cast-if2 (node-claims t) (node-at t) node.Post node-Inv-loop node-μ-loop
+node-cast-if2 t c = search needs
+
+node-shared-slice-read-if2 : (t : ℕ) → node-lts.Need-shared-slice-read-if2 (node-claims t) (node-at t) node.Post node-Inv-loop node-μ-loop
+node-shared-slice-read-if2 t c =
+    let st = c .before .before .before .before .before in
+    let l = st .pre .1 .1 .1 .0 .room in
+    omega arith
+
+node-stage-requires : (t : ℕ) → node-lts.Need-stage-requires (node-claims t) (node-at t) node.Post node-Inv-loop node-μ-loop
+node-stage-requires t c κs =
+    let st = c .before .before .before .before .before .before in
+    let l = c .before .before .before .loop in
+    let f = l .inv .1 .from in
+    (omega arith, (omega arith, (omega arith, (eq-eqb (c .if2 .taken), (st .pre .1 .1 .1 .0, st .pre .1 .1 .1 .1)))))
+
+node-returns-2 : (t : ℕ) → node-lts.Need-returns-2 (node-claims t) (node-at t) node.Post node-Inv-loop node-μ-loop
+node-returns-2 t c =
+    let st = c .before .before .before .before .before .before .before .before in
+    let l = c .before .before .before .before .before .loop in
+    let p = c .before .stage in
+    subst (λ (b : Bool). Answer (tries (st .args .marks .now)) (At (st .args .s .target)) (At (st .args .s .sum)) (st .args .k) (st .args .m) b (p .result .masks)) (sym (c .if3 .taken))
+    (passed-found _ _ _ (st .args .k) (st .args .m) (omega arith) (l .i) _ (l .inv .1) (p .ensures .0 (c .if3 .taken)))
+
+node-add-i : (t : ℕ) → node-lts.Need-add-i (node-claims t) (node-at t) node.Post node-Inv-loop node-μ-loop
+node-add-i t c = search needs
+
+node-loop-less : (t : ℕ) → node-lts.Need-loop-less (node-claims t) (node-at t) node.Post node-Inv-loop node-μ-loop
+node-loop-less t c = search needs
+
+node-loop-again : (t : ℕ) → node-lts.Need-loop-again (node-claims t) (node-at t) node.Post node-Inv-loop node-μ-loop
+node-loop-again t c =
+    let st = c .before .before .before .before .before .before in
+    let l = c .before .before .before .loop in (
+      omega arith,
+      passed-more (tries (st .args .marks .now)) _ _ (st .args .k) (st .args .m) (omega arith) (l .i) (l .inv .1)
+          (⊎-elim (λ w _. w .1 .ensures .1 (w .2 .left)) (λ w e. absurd (w .left (eqb→eq (getD (st .args .marks .now) (l .i) 0) 1 e))) (c .if2 .came)),
+    )
+
+node-returns-3 : (t : ℕ) → node-lts.Need-returns-3 (node-claims t) (node-at t) node.Post node-Inv-loop node-μ-loop
+node-returns-3 t c =
+    let st = c .before .before .before .before in
+    let l = c .before .loop in
+    passed-all (tries (st .args .marks .now)) _ _ (st .args .k) (st .args .m) (omega arith) (l .i) _ (st .pre .1 .1 .1 .0 .stages) (l .inv .1) (c .loop-test .left) (zero-at 32)
+
+stage-sub-tried : (t : ℕ) → stage-lts.Need-sub-tried (stage-claims t) (stage-at t) stage.Post
+stage-sub-tried t c = search needs
+
+stage-tried-requires : (t : ℕ) → stage-lts.Need-tried-requires (stage-claims t) (stage-at t) stage.Post
+stage-tried-requires t c κs =
+    let st = c .before in
+    let m = st .pre .1 .1 .1 .1 .0 in
+    (omega arith, (m .stages (st .args .m) (st .pre .1 .1 .1 .0), st .pre .1 .1 .1 .1 .1))
+
+stage-returns : (t : ℕ) → stage-lts.Need-returns (stage-claims t) (stage-at t) stage.Post
+stage-returns t c =
+    let st = c .before .before .before .before in
+    let tr = c .before .before .tried in
+    let m = st .pre .1 .1 .1 .1 .0 in
+    (λ e. absurd (false≢true e), λ e. below-none (tries (st .args .marks .now)) _ _ _ _ (st .args .k) (st .args .m) _ _ _ _ _ _ (tr .ensures) (not-true _ (c .if1 .taken)) (m .stages))
+
+stage-sub-node : (t : ℕ) → stage-lts.Need-sub-node (stage-claims t) (stage-at t) stage.Post
+stage-sub-node t c = search needs
+
+stage-node-requires : (t : ℕ) → stage-lts.Need-node-requires (stage-claims t) (stage-at t) stage.Post
+stage-node-requires t c κs =
+    let st = c .before .before .before .before .before in
+    let tr = c .before .before .before .tried in
+    let ok = not-false _ (c .before .if1 .left) in
+    let l = tr .ensures .shrinks ok in
+    let b = mask-below (st .args .m) (st .pre .1 .1 .1 .1 .0 .stages (st .args .m) (st .pre .1 .1 .1 .0)) in
+    (omega arith, (omega arith, (omega arith, (st .pre .1 .1 .1 .1 .0, tr .ensures .kept ok))))
+
+stage-returns-2 : (t : ℕ) → stage-lts.Need-returns-2 (stage-claims t) (stage-at t) stage.Post
+stage-returns-2 t c =
+    let st = c .before .before .before .before .before .before .before .before in
+    let tr = c .before .before .before .before .before .before .tried in
+    let n = c .before .before .node in (
+      λ e. absurd (false≢true e),
+      λ e. below-closed (tries (st .args .marks .now)) _ _ _ _ (st .args .k) (st .args .m) _ _ _ _ _ _ (tr .ensures) (not-false _ (c .before .before .before .before .if1 .left)) (st .pre .1 .0) (st .pre .1 .1 .1 .0) _ _
+          (n .ensures) (not-true _ (c .if2 .taken)),
+    )
+
+stage-sub-p : (t : ℕ) → stage-lts.Need-sub-p (stage-claims t) (stage-at t) stage.Post
+stage-sub-p t c = search needs
+
+stage-mul-p : (t : ℕ) → stage-lts.Need-mul-p (stage-claims t) (stage-at t) stage.Post
+stage-mul-p t c = search needs
+
+stage-element-write-p : (t : ℕ) → stage-lts.Need-element-write-p (stage-claims t) (stage-at t) stage.Post
+stage-element-write-p t c =
+    search needs
+
+stage-returns-3 : (t : ℕ) → stage-lts.Need-returns-3 (stage-claims t) (stage-at t) stage.Post
+stage-returns-3 t c =
+    let st = c .before .before .before .before .before .before .before .before in
+    let tr = c .before .before .before .before .before .before .tried in
+    let n = c .before .before .node in
+    let f = not-false _ (c .if2 .left) in
+    let l : length (n .result .masks) ≡ 32 = field-length 32 (n .result .masks) (n .ok .1 .1 .1 .0 .1 .0 .1) in (
+      λ e. below-found (tries (st .args .marks .now)) _ _ _ _ (st .args .k) (st .args .m) _ _ _ _ _ _ (tr .ensures) (not-false _ (c .before .before .before .before .if1 .left)) (st .pre .1 .0) (st .pre .1 .1 .1 .0) _ _
+          (n .ensures) f (omega arith),
+      λ e. absurd (true≢false (sym f ∙ e)),
+    )
+
+pub +node+stage-spec : {M : Type 1} → statement M
++node+stage-spec = close μ-node μ-stage (λ t. node-lts.spec (node-claims t)
+    (node-at t)
+    node.Post
+    node-Inv-loop
+    node-μ-loop
+    (node-same-requires t)
+    (node-returns t)
+    (node-loop-holds t)
+    (node-cast-if2 t)
+    (node-shared-slice-read-if2 t)
+    (node-stage-requires t)
+    (node-returns-2 t)
+    (node-add-i t)
+    (node-loop-less t)
+    (node-loop-again t)
+    (node-returns-3 t))
+    λ t. stage-lts.spec
+    (stage-claims t)
+    (stage-at t)
+    stage.Post
+    (stage-sub-tried t)
+    (stage-tried-requires t)
+    (stage-returns t)
+    (stage-sub-node t)
+    (stage-node-requires t)
+    (stage-returns-2 t)
+    (stage-sub-p t)
+    (stage-mul-p t)
+    (stage-element-write-p t)
+    (stage-returns-3 t)

@@ -1,0 +1,192 @@
+-- How an answer follows from the answers below it: at a leaf, past the masks that complete nothing, and with the first stage put before what completes the
+-- sum below it. All of it over any permitted masks.
+use mathlib.Core.Path.{_≡_, refl, sym, ap, subst, _∙_}
+use mathlib.Core.Bool.{Bool, true, false, not, _&&_, true≢false, false≢true}
+use mathlib.Core.Logic.{_⊎_, ⊎-elim}
+use mathlib.Core.List.{List, [], _∷_}
+use Prim.Native.Nat.{ℕ, zero, suc, _+_, _-_, _≤_, _<_}
+use native.Mathlib.Nat.{eq-or-lt-of-le, le-refl}
+use native.Mathlib.Omega.{arith}
+use lib.Dec.{T, ltb, eqb, eqb→eq, nltb→le, not-T}
+use lib.ListN.{length, getD, set}
+use lib.Seq.{getD-set-same, getD-set-other}
+use Rattle.plane.specs.Lists.{all}
+use Rattle.plane.proofs.Tests.{T-and, not-or, not-ltb, clash}
+use Rattle.masks.specs.Chain.{falling, smaller}
+use Rattle.masks.specs.Mask.{stage}
+use Rattle.masks.proofs.Cells.{stage-below}
+use Rattle.rows.specs.Cells.{Cells, Same, Sum, At, AtMask, AtSum}
+use Rattle.search.specs.Plans.{chosen}
+use Rattle.search.specs.Tree.{Completes, Answer, NoneWith, Passed, Below}
+use Rattle.search.proofs.Addition.{same-refl, same-sym, same-trans, sum-both, sum-assoc, sum-origin}
+
+-- ---- the stages that an array holds
+
+chosen-below : (masks : List ℕ) (i j a : ℕ) → j ≤ i → chosen (set masks i a) j ≡ chosen masks j
+unfolding chosen
+chosen-below masks i zero a h = refl
+chosen-below masks i (suc j) a h = cc (getD-set-other masks i j a 0 (λ e. omega arith), chosen-below masks i j a (omega arith))
+
+chosen-suc : (masks : List ℕ) (j a : ℕ) → j < length masks → chosen (set masks j a) (suc j) ≡ a ∷ chosen masks j
+unfolding chosen
+chosen-suc masks j a h = cc (getD-set-same masks j a 0 h, chosen-below masks j j a (omega arith))
+
+-- what is stored at k − 1 is the first of the k stages
+pub chosen-set : (masks : List ℕ) (k a : ℕ) → 0 < k → k ≤ length masks → chosen (set masks (k - 1) a) k ≡ a ∷ chosen masks (k - 1)
+chosen-set masks k a p h = subst (λ (n : ℕ). chosen (set masks (k - 1) a) n ≡ a ∷ chosen masks (k - 1)) (omega arith) (chosen-suc masks (k - 1) a (omega arith))
+
+pub length-chosen : (masks : List ℕ) (k : ℕ) → length (chosen masks k) ≡ k
+unfolding chosen
+length-chosen masks zero = refl
+length-chosen masks (suc k) = ap suc (length-chosen masks k)
+
+-- ---- over any permitted masks
+
+module _ (permitted : ℕ → Bool) where
+  -- the same sum is completed by the same stages
+  pub completes-same : {A X Y : Cells} (m : ℕ) (ms : List ℕ) → Same X Y → Completes permitted A X m ms → Completes permitted A Y m ms
+  completes-same m ms e c = record { stages = c .stages; rising = c .rising; sum = same-trans (c .sum) (sum-both e same-refl) }
+
+  module _ (A Y : Cells) where
+    -- none below the first, so none below what is below it
+    lower : (m i : ℕ) (ms : List ℕ) → m ≤ i → Completes permitted A Y i ms → Completes permitted A Y m ms
+    lower m i ms l c = record { stages = c .stages; rising = down ms (c .rising); sum = c .sum }
+      where
+        down : (ms : List ℕ) → T (not (falling (i ∷ ms))) → T (not (falling (m ∷ ms)))
+        down [] t = tt
+        down (s ∷ ms) t =
+            let u = not-or (ltb s i) (falling (s ∷ ms)) .0 t in
+            let q = nltb→le s i (u .0) in
+            not-or (ltb s m) (falling (s ∷ ms)) .1 (not-ltb s m (omega arith), u .1)
+
+    -- the first stage is permitted and not below m, and the others complete the sum with it
+    head : (m s : ℕ) (ms : List ℕ) → Completes permitted A Y m (s ∷ ms) → (m ≤ s) × T (permitted s) × Completes permitted A (Sum Y (AtMask s)) s ms
+    head m s ms c =
+        let u = not-or (ltb s m) (falling (s ∷ ms)) .0 (c .rising) in
+        let v = T-and (permitted s) (all permitted ms) .0 (c .stages) in
+        (nltb→le s m (u .0), v .0, record { stages = v .1; rising = u .1; sum = same-trans (c .sum) (same-sym sum-assoc) })
+
+    behind : (m : ℕ) (ms : List ℕ) → T (permitted m) → Completes permitted A (Sum Y (AtMask m)) m ms → Completes permitted A Y m (m ∷ ms)
+    behind m ms p c = record {
+      stages = T-and (permitted m) (all permitted ms) .1 (p, c .stages);
+      rising = not-or (ltb m m) (falling (m ∷ ms)) .1 (not-ltb m m (le-refl m), c .rising);
+      sum = same-trans (c .sum) sum-assoc;
+    }
+
+    -- ---- no stage is left
+
+    pub at-leaf : (k m : ℕ) (found : Bool) (masks : List ℕ) → k ≡ 0 → (found ≡ true → Same A Y) → (found ≡ false → Same A Y → ⊥) → ((i : ℕ) → getD masks i 0 ≡ 0)
+        → Answer permitted A Y k m found masks
+    unfolding chosen
+    at-leaf zero m found masks z f g past = record {
+      sound = λ e. record { stages = tt; rising = tt; sum = same-trans (f e) (same-sym sum-origin) };
+      first = λ e ns l c. none-smaller ns;
+      none = λ e ns l c. g e (same-trans (c-sum ns l (c .sum)) sum-origin);
+      past = λ i l. past i;
+    }
+      where
+        none-smaller : (ns : List ℕ) → T (not (smaller ns []))
+        none-smaller [] = tt
+        none-smaller (n ∷ ns) = tt
+
+        c-sum : (ns : List ℕ) → length ns ≡ 0 → Same A (Sum Y (AtSum ns)) → Same A (Sum Y (AtSum []))
+        c-sum [] l s = s
+        c-sum (n ∷ ns) l s = absurd (let q : suc (length ns) ≡ 0 = l in omega arith)
+    at-leaf (suc k) m found masks z f g past = absurd (omega arith)
+
+    -- ---- the masks in turn
+
+    module _ (k m : ℕ) (p : 0 < k) where
+      pub passed-none : Passed permitted A Y k m m
+      passed-none = record { from = le-refl m; later = λ ns l c. c }
+
+      -- mask i is not permitted, or no list has it first
+      pub passed-more : (i : ℕ) → Passed permitted A Y k m i → (T (permitted i) → NoneWith permitted A Y k i) → Passed permitted A Y k m (i + 1)
+      passed-more i P shut = record { from = omega (arith, P .from); later = λ ns l c. go ns l (P .later ns l c) }
+        where
+          go : (ns : List ℕ) → length ns ≡ k → Completes permitted A Y i ns → Completes permitted A Y (i + 1) ns
+          go [] l c = absurd (let q : 0 ≡ k = l in omega arith)
+          go (s ∷ ns) l c =
+              let h = head i s ns c in
+              let q : suc (length ns) ≡ k = l in
+              let r : length ns ≡ k - 1 = omega arith in
+              ⊎-elim
+              (λ e. absurd (shut (subst (λ n. T (permitted n)) (sym e) (h .1)) ns r (subst (λ n. Completes permitted A (Sum Y (AtMask n)) n ns) (sym e) (h .2))))
+              (λ w. record { stages = c .stages; rising = not-or (ltb s (i + 1)) (falling (s ∷ ns)) .1 (not-ltb s (i + 1) (omega arith), h .2 .rising); sum = c .sum })
+              (eq-or-lt-of-le (h .0))
+
+      -- the first list from i on is the first from m on
+      pub passed-found : (i : ℕ) (masks : List ℕ) → Passed permitted A Y k m i → Answer permitted A Y k i true masks → Answer permitted A Y k m true masks
+      passed-found i masks P a = record {
+        sound = λ e. lower m i (chosen masks k) (P .from) (a .sound e);
+        first = λ e ns l c. a .first e ns l (P .later ns l c);
+        none = λ e. absurd (true≢false e);
+        past = a .past;
+      }
+
+      -- no mask is left
+      pub passed-all : (i : ℕ) (masks : List ℕ) → ((n : ℕ) → T (permitted n) → T (stage n)) → Passed permitted A Y k m i → 512 ≤ i → ((j : ℕ) → getD masks j 0 ≡ 0)
+          → Answer permitted A Y k m false masks
+      passed-all i masks st P q past = record {
+        sound = λ e. absurd (false≢true e);
+        first = λ e. absurd (false≢true e);
+        none = λ e ns l c. go ns l (P .later ns l c);
+        past = λ j l. past j;
+      }
+        where
+          go : (ns : List ℕ) → length ns ≡ k → Completes permitted A Y i ns → ⊥
+          go [] l c = let r : 0 ≡ k = l in omega arith
+          go (s ∷ ns) l c = let h = head i s ns c in let b = stage-below s (st s (h .1)) in omega (arith, h .0)
+
+    -- ---- a stage put before what completes the sum below it
+
+    module _ (k m : ℕ) (p : 0 < k) (pm : T (permitted m)) (Z : Cells) (z : Same Z (Sum Y (AtMask m))) where
+      pub none-with : (masks : List ℕ) → Answer permitted A Z (k - 1) m false masks → NoneWith permitted A Y k m
+      none-with masks a ns l c = a .none refl ns l (completes-same m ns (same-sym z) c)
+
+      not-smaller : (ns : List ℕ) (L : List ℕ) → length ns ≡ k → Completes permitted A Y m ns
+          → ((ms : List ℕ) → length ms ≡ k - 1 → Completes permitted A Z m ms → T (not (smaller ms L))) → T (not (smaller ns (m ∷ L)))
+      not-smaller [] L l c f = tt
+      not-smaller (s ∷ ns) L l c f =
+          let h = head m s ns c in
+          let q : suc (length ns) ≡ k = l in
+          let r : length ns ≡ k - 1 = omega arith in
+          not-or (ltb s m) (eqb s m && smaller ns L) .1 (
+            not-ltb s m (h .0),
+            not-T (eqb s m && smaller ns L) (λ t.
+                let u = T-and (eqb s m) (smaller ns L) .0 t in
+                let e = eqb→eq s m (u .0) in
+                clash (smaller ns L) (f ns r (completes-same m ns (same-sym z) (subst (λ n. Completes permitted A (Sum Y (AtMask n)) n ns) e (h .2)))) (u .1)),
+          )
+
+      pub put-first : (masks : List ℕ) → k ≤ length masks → Answer permitted A Z (k - 1) m true masks → Answer permitted A Y k m true (set masks (k - 1) m)
+      put-first masks room a =
+          let e = chosen-set masks k m p room in
+          record {
+            sound = λ f. subst (Completes permitted A Y m) (sym e) (behind m (chosen masks (k - 1)) pm (completes-same m (chosen masks (k - 1)) z (a .sound refl)));
+            first = λ f ns l c. subst (λ L. T (not (smaller ns L))) (sym e) (not-smaller ns (chosen masks (k - 1)) l c (a .first refl));
+            none = λ f. absurd (true≢false f);
+            past = λ i l. getD-set-other masks (k - 1) i m 0 (λ q. omega arith) ∙ a .past i (omega arith);
+          }
+
+-- what the partial sum below says of that above it
+module _ (permitted : ℕ → Bool) (target sum : List ℕ) (w h k m : ℕ) (ok : Bool) (target′ sum′ residue′ : List ℕ) (w′ h′ : ℕ)
+    (b : Below target sum w h (k - 1) m ok target′ sum′ residue′ w′ h′) where
+  -- no list has m first
+  pub below-none : ok ≡ false → ((n : ℕ) → T (permitted n) → T (stage n)) → NoneWith permitted (At target) (At sum) k m
+  below-none e st ns l c = b .no e ns l (stages-of ns (c .stages)) (c .sum)
+    where
+      stages-of : (ns : List ℕ) → T (all permitted ns) → T (all stage ns)
+      stages-of [] t = tt
+      stages-of (n ∷ ns) t = let u = T-and (permitted n) (all permitted ns) .0 t in T-and (stage n) (all stage ns) .1 (st n (u .0), stages-of ns (u .1))
+
+  module _ (e : ok ≡ true) (p : 0 < k) (pm : T (permitted m)) (found : Bool) (masks : List ℕ) (a : Answer permitted (At target′) (At sum′) (k - 1) m found masks) where
+    here : Answer permitted (At target) (At sum′) (k - 1) m found masks
+    here = subst (λ (l : List ℕ). Answer permitted (At l) (At sum′) (k - 1) m found masks) (b .same e) a
+
+    pub below-closed : found ≡ false → NoneWith permitted (At target) (At sum) k m
+    below-closed f = none-with permitted (At target) (At sum) k m p pm (At sum′) (b .grown e) masks (subst (λ (d : Bool). Answer permitted (At target) (At sum′) (k - 1) m d masks) f here)
+
+    pub below-found : found ≡ true → k ≤ length masks → Answer permitted (At target) (At sum) k m true (set masks (k - 1) m)
+    below-found f room =
+        put-first permitted (At target) (At sum) k m p pm (At sum′) (b .grown e) masks room (subst (λ (d : Bool). Answer permitted (At target) (At sum′) (k - 1) m d masks) f here)

@@ -1,0 +1,6 @@
+pub mod Addition
+pub mod Reaches
+pub mod Answers
+pub mod Trying
+pub mod Marking
+pub mod Lengths

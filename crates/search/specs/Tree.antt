@@ -1,0 +1,77 @@
+-- Document 01, "Shortest plan": the tree that the search goes down. A partial sum Y tries each stage, and each stage tried opens the sum below it.
+use mathlib.Core.Path.{_≡_}
+use mathlib.Core.Bool.{Bool, true, false, not}
+use mathlib.Core.List.{List, _∷_}
+use Prim.Native.Nat.{ℕ, _+_, _-_, _≤_, _<_}
+use lib.Dec.{T, eqb}
+use lib.ListN.{getD, length}
+use Rattle.plane.specs.Lists.{all, In}
+use Rattle.masks.specs.Chain.{falling, smaller}
+use Rattle.masks.specs.Mask.{stage}
+use Rattle.rows.specs.Cells.{Cells, Same, Sum, Residue, At, AtMask, AtSum}
+use Rattle.extents.specs.Extents.{Greatest, row, column}
+use Rattle.search.specs.Plans.{SumsTo, chosen}
+
+-- ms are permitted stages, none below m and none below the one before it, and complete Y to A
+pub record Completes (permitted : ℕ → Bool) (A Y : Cells) (m : ℕ) (ms : List ℕ) : Type 0 where
+  pub stages : T (all permitted ms)
+  pub rising : T (not (falling (m ∷ ms)))
+  pub sum : Same A (Sum Y (AtSum ms))
+
+-- the answer for k stages, none below m: the first of the lists that complete Y to A, or that there is none
+pub record Answer (permitted : ℕ → Bool) (A Y : Cells) (k m : ℕ) (found : Bool) (masks : List ℕ) : Type 0 where
+  pub sound : found ≡ true → Completes permitted A Y m (chosen masks k)
+  pub first : found ≡ true → (ns : List ℕ) → length ns ≡ k → Completes permitted A Y m ns → T (not (smaller ns (chosen masks k)))
+  pub none : found ≡ false → (ns : List ℕ) → length ns ≡ k → Completes permitted A Y m ns → ⊥
+  pub past : (i : ℕ) → k ≤ i → getD masks i 0 ≡ 0
+
+-- no k stages with m first, none below it, complete Y to A
+abbrev pub NoneWith : (ℕ → Bool) → Cells → Cells → ℕ → ℕ → Type 0
+NoneWith permitted A Y k m = (ns : List ℕ) → length ns ≡ k - 1 → Completes permitted A (Sum Y (AtMask m)) m ns → ⊥
+
+-- of k stages, none below m, what completes Y to A has none below i
+pub record Passed (permitted : ℕ → Bool) (A Y : Cells) (k m i : ℕ) : Type 0 where
+  pub from : m ≤ i
+  pub later : (ns : List ℕ) → length ns ≡ k → Completes permitted A Y m ns → Completes permitted A Y i ns
+
+-- ---- a partial sum
+
+-- what is kept of a partial sum: the residue is the target less the sum, and w and h are what the sum's extents lack of the target's
+pub record Kept (target sum residue : List ℕ) (w h : ℕ) : Type 0 where
+  pub left : Same (At residue) (Residue (At target) (At sum))
+  pub sum-w : ℕ
+  pub sum-wide : Greatest column (At sum) sum-w
+  pub target-wide : Greatest column (At target) (sum-w + w)
+  pub sum-h : ℕ
+  pub sum-high : Greatest row (At sum) sum-h
+  pub target-high : Greatest row (At target) (sum-h + h)
+
+-- the partial sum below by the stage m, with j stages after it, or that no j stages lead on from there
+pub record Below (target sum : List ℕ) (w h j m : ℕ) (ok : Bool) (target′ sum′ residue′ : List ℕ) (w′ h′ : ℕ) : Type 0 where
+  pub grown : ok ≡ true → Same (At sum′) (Sum (At sum) (AtMask m))
+  pub same : ok ≡ true → target′ ≡ target
+  pub kept : ok ≡ true → Kept target′ sum′ residue′ w′ h′
+  pub shrinks : ok ≡ true → w′ + h′ < w + h
+  pub no : ok ≡ false → (ns : List ℕ) → length ns ≡ j → T (all stage ns) → Same (At target) (Sum (Sum (At sum) (AtMask m)) (AtSum ns)) → ⊥
+
+-- ---- which masks are tried at all
+
+-- mask m is marked as one to try
+abbrev pub tries : List ℕ → ℕ → Bool
+tries marks m = eqb (getD marks m 0) 1
+
+-- a mark for each mask, none but stages marked
+pub record Marks (marks : List ℕ) : Type 0 where
+  pub room : length marks ≡ 512
+  pub stages : (m : ℕ) → T (tries marks m) → T (stage m)
+
+-- the mark of m: 1 only for a stage, and no sum of stages that is A has an unmarked one
+pub record Mark (A : Cells) (m mark : ℕ) : Type 0 where
+  pub tried : mark ≡ 1 → T (stage m)
+  pub passed : (mark ≡ 1 → ⊥) → T (stage m) → (ns : List ℕ) → SumsTo stage A ns → In ns m → ⊥
+
+-- the marks of all masks below n
+pub record Marked (A : Cells) (n : ℕ) (marks : List ℕ) : Type 0 where
+  pub room : length marks ≡ 512
+  pub at : (m : ℕ) → m < n → Mark A m (getD marks m 0)
+  pub rest : (m : ℕ) → n ≤ m → getD marks m 0 ≡ 0
