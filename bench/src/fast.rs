@@ -1,6 +1,8 @@
-//! The four calls as a careful Rust programmer would write them for speed: rows
-//! as [u16; 16], bit operations, no allocation.
+//! The calls as a careful Rust programmer would write them for speed: rows as
+//! [u16; 16], bit operations, no allocation. Planning is the port of the library's
+//! search, and no quicker way to search.
 
+use crate::search::{End, Rows, Search};
 use musqerpi_tests::cases::Call;
 
 mod read;
@@ -26,6 +28,7 @@ pub fn run(call: Call, a: &[u32], b: &[u32], offset: (i32, i32), out: &mut [u32]
         Call::Move => move_shape(a, offset.0, offset.1, out),
         Call::Join => join(a, b, out),
         Call::Sum => sum(a, b, out),
+        Call::Plan => plan(a, out),
     }
 }
 
@@ -213,4 +216,35 @@ fn sum_with_row(rows: &[u16; 16], mut cells: u16) -> [u16; 16] {
         cells &= cells - 1;
     }
     sum
+}
+
+/// The cells of a valid shape list, where they stand in the window.
+pub fn rows_of(list: &[u32]) -> Rows {
+    let mut rows = [0; 16];
+    for row in &list[1..] {
+        rows[(row >> 16 & 15) as usize] = *row as u16;
+    }
+    rows
+}
+
+/// Grounds 1 to 4, 9 and 10; the search has no limit.
+pub fn plan(list: &[u32], out: &mut [u32]) -> i64 {
+    let shape = match read_shape(list) {
+        Ok(shape) => shape,
+        Err(number) => return -number,
+    };
+    if out.len() < 32 {
+        return -9;
+    }
+    let mut search = Search::new(&rows_of(list), u64::MAX);
+    let End::Plan(n) = search.run() else {
+        return -10;
+    };
+    let (dx, dy) = ((shape.x + 15) as u32, (shape.y + 15) as u32);
+    out[0] = 0x3000_0000 | n as u32;
+    out[1] = 0x4000_0000 | dy << 8 | dx;
+    for (to, mask) in out[2..].iter_mut().zip(&search.path[..n]) {
+        *to = 0x5000_0000 | u32::from(*mask);
+    }
+    n as i64 + 2
 }

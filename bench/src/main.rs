@@ -1,9 +1,12 @@
-//! Times the library beside the reference and a fast Rust implementation, on the
-//! same inputs in interleaved rounds. See README.md.
+//! Times the library beside Rust implementations, on the same inputs: the calls that
+//! answer shapes here, planning in planning.rs. See README.md.
 
+mod families;
 mod fast;
+mod planning;
+mod search;
 
-use musqerpi_tests::cases::{hex, Call, Case, CALLS};
+use musqerpi_tests::cases::{hex, Call, Case, SHAPE_CALLS};
 use musqerpi_tests::lists::Maker;
 use musqerpi_tests::{library, reference};
 use std::hint::black_box;
@@ -36,7 +39,7 @@ fn refused(maker: &mut Maker) -> Vec<Case> {
     let mut turn = 0;
     let mut make = || {
         turn += 1;
-        maker.damaged(CALLS[turn % CALLS.len()])
+        maker.damaged(SHAPE_CALLS[turn % SHAPE_CALLS.len()])
     };
     std::iter::repeat_with(&mut make)
         .filter(|case| answer(case) < 0)
@@ -121,7 +124,8 @@ fn print_row(name: &str, cases: &[Case]) {
     );
 }
 
-fn main() {
+/// The table of the calls that answer shapes.
+fn shape_calls() {
     let mut maker = Maker::new(2024);
     println!("{CASES} cases a row, median of {ROUNDS} rounds");
     println!(
@@ -140,10 +144,21 @@ fn main() {
         "reference",
         "fast"
     );
-    for call in CALLS {
+    for call in SHAPE_CALLS {
         let cases = answered(&mut maker, call);
         print_row(call.name(), &cases);
     }
     let cases = refused(&mut maker);
     print_row("refused, mixed", &cases);
+}
+
+fn main() {
+    match std::env::args().nth(1).as_deref() {
+        None => shape_calls(),
+        Some("planning") => planning::run(),
+        Some(other) => {
+            eprintln!("{other}: the only table with a name is planning");
+            std::process::exit(2);
+        }
+    }
 }

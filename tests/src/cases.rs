@@ -8,9 +8,11 @@ pub enum Call {
     Move,
     Join,
     Sum,
+    Plan,
 }
 
-pub const CALLS: [Call; 4] = [Call::ShapeOfPlan, Call::Move, Call::Join, Call::Sum];
+/// The calls that answer a shape list: all but planning, which searches.
+pub const SHAPE_CALLS: [Call; 4] = [Call::ShapeOfPlan, Call::Move, Call::Join, Call::Sum];
 
 impl Call {
     pub fn name(self) -> &'static str {
@@ -19,6 +21,15 @@ impl Call {
             Call::Move => "move",
             Call::Join => "join",
             Call::Sum => "sum",
+            Call::Plan => "plan",
+        }
+    }
+
+    /// Words that the lent output has at least.
+    pub fn least_output(self) -> usize {
+        match self {
+            Call::Plan => 32,
+            _ => 17,
         }
     }
 
@@ -49,6 +60,10 @@ impl Case {
 
     pub fn of_two(call: Call, a: &[u32], b: &[u32], out_n: usize) -> Case {
         Case::new(call, a, b, (0, 0), out_n)
+    }
+
+    pub fn of_planning(shape: &[u32], out_n: usize) -> Case {
+        Case::new(Call::Plan, shape, &[], (0, 0), out_n)
     }
 
     fn new(call: Call, a: &[u32], b: &[u32], offset: (i32, i32), out_n: usize) -> Case {
@@ -84,7 +99,7 @@ impl fmt::Display for Case {
     fn fmt(&self, f: &mut fmt::Formatter) -> fmt::Result {
         write!(f, "{} {}", self.call.name(), hex(&self.a))?;
         match self.call {
-            Call::ShapeOfPlan => {}
+            Call::ShapeOfPlan | Call::Plan => {}
             Call::Move => write!(
                 f,
                 " by {:08x} {:08x} ({}, {})",

@@ -1,9 +1,10 @@
 //! Runs a case through the library and the reference, in lent memory that is
 //! compared word for word.
 
-use crate::cases::{hex, Case};
+use crate::cases::{hex, Call, Case};
 use crate::random::Random;
-use crate::reference::points::Point;
+use crate::reference::grounds::{first, PLAN};
+use crate::reference::points::{joined, of_plan, Point};
 use crate::{library, reference};
 use std::hint::black_box;
 use std::ops::Range;
@@ -53,6 +54,14 @@ pub struct Outcome {
     pub points: Result<Vec<Point>, i64>,
 }
 
+/// The list is a plan list, masks never falling, and its points are these.
+pub fn assert_plan_of(points: &[Point], list: &[u32]) {
+    let ground = first(&PLAN, &[list]);
+    assert_eq!(ground, None, "{} is no plan list", hex(list));
+    let (made, wanted) = (joined(&of_plan(list), &[]), joined(points, &[]));
+    assert_eq!(made, wanted, "{} has other points", hex(list));
+}
+
 pub struct Checker {
     random: Random,
     ours: Lent,
@@ -76,13 +85,16 @@ impl Checker {
         self.theirs.lay(case, seed);
         let offset = (case.dx, case.dy);
         let points = reference::result_points(case.call, &case.a, &case.b, offset);
-        let expected = reference::finish(&points, self.ours.parts().2);
+        let expected = reference::finish(case.call, &points, self.ours.parts().2);
         let (a, b, out) = self.theirs.parts();
         let answer = library::run(case.call, a, b, offset, out);
         // The inputs too are read anew, though they were lent for reading alone.
         let found = black_box(&mut self.theirs);
         let same = answer == expected && found.words == self.ours.words;
         assert!(same, "{}", self.difference(case, answer, expected));
+        if let (Call::Plan, Ok(points), 1..) = (case.call, &points, answer) {
+            assert_plan_of(points, &self.theirs.parts().2[..answer as usize]);
+        }
         Outcome { answer, points }
     }
 

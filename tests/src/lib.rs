@@ -3,6 +3,7 @@
 
 pub mod cases;
 pub mod check;
+pub mod expect;
 pub mod library;
 pub mod lists;
 pub mod random;

@@ -1,4 +1,4 @@
-//! The library's four calls, and safe wrappers on slices.
+//! The library's five calls on lists, and safe wrappers on slices.
 
 use crate::cases::Call;
 
@@ -29,10 +29,11 @@ mod boundary {
             out: *mut u32,
             out_n: usize,
         ) -> i64;
+        pub fn musq_plan(shape: *const u32, n: usize, out: *mut u32, out_n: usize) -> i64;
     }
 }
 
-// In all four: a slice's pointer is never null, even of an empty slice, and
+// In all five: a slice's pointer is never null, even of an empty slice, and
 // holds for its length; the borrow rules keep the output off the inputs.
 
 pub fn shape_of_plan(plan: &[u32], out: &mut [u32]) -> i64 {
@@ -58,6 +59,11 @@ pub fn sum(a: &[u32], b: &[u32], out: &mut [u32]) -> i64 {
     unsafe { boundary::musq_sum(first, a.len(), second, b.len(), out.as_mut_ptr(), out.len()) }
 }
 
+pub fn plan(shape: &[u32], out: &mut [u32]) -> i64 {
+    // SAFETY: pointers and lengths are those of live slices, see above.
+    unsafe { boundary::musq_plan(shape.as_ptr(), shape.len(), out.as_mut_ptr(), out.len()) }
+}
+
 /// The call on these lists; `b` and `offset` are passed over where it takes none.
 pub fn run(call: Call, a: &[u32], b: &[u32], offset: (i32, i32), out: &mut [u32]) -> i64 {
     match call {
@@ -65,5 +71,6 @@ pub fn run(call: Call, a: &[u32], b: &[u32], offset: (i32, i32), out: &mut [u32]
         Call::Move => move_shape(a, offset.0, offset.1, out),
         Call::Join => join(a, b, out),
         Call::Sum => sum(a, b, out),
+        Call::Plan => plan(a, out),
     }
 }

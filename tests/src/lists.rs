@@ -6,6 +6,7 @@ use crate::reference::grounds::is_stage;
 use crate::reference::points::{bounds, of_mask, of_shape, Point};
 
 pub mod damage;
+pub mod planning;
 
 /// Offsets at and about the limits.
 pub const EDGE_OFFSETS: [i32; 17] = [
@@ -57,7 +58,7 @@ impl Maker {
 
     /// A valid case of the call, the output long enough; ground 8 may hold.
     pub fn case(&mut self, call: Call) -> Case {
-        let out_n = 17 + self.random.below(16);
+        let out_n = call.least_output() + self.random.below(16);
         match call {
             Call::ShapeOfPlan => Case::of_plan(&self.plan(), out_n),
             Call::Move => {
@@ -68,6 +69,10 @@ impl Maker {
                 Case::of_move(&shape, dx, dy, out_n)
             }
             Call::Join | Call::Sum => Case::of_two(call, &self.shape(), &self.shape(), out_n),
+            Call::Plan => {
+                let kind = self.random.pick(&planning::KINDS);
+                Case::of_planning(&self.small_shape(kind, 5), out_n)
+            }
         }
     }
 

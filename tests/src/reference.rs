@@ -4,13 +4,16 @@
 use crate::cases::{Call, Case};
 
 pub mod grounds;
+pub mod plans;
 pub mod points;
+mod sets;
 
 use grounds::{first, PLAN, SHAPE};
+use plans::{shortest, to_plan_list};
 use points::{excess, joined, moved, of_plan, of_shape, summed, to_list, Point};
 
-/// The points of the result, or the first ground from 1 to 7 that holds.
-/// Each ground is tried over both lists before the next.
+/// The points of the result, a shape or a plan, or the first ground from 1 to 7
+/// that holds. Each ground is tried over both lists before the next.
 pub fn result_points(
     call: Call,
     a: &[u32],
@@ -19,7 +22,7 @@ pub fn result_points(
 ) -> Result<Vec<Point>, i64> {
     let ground = match call {
         Call::ShapeOfPlan => first(&PLAN, &[a]),
-        Call::Move => first(&SHAPE, &[a]),
+        Call::Move | Call::Plan => first(&SHAPE, &[a]),
         Call::Join | Call::Sum => first(&SHAPE, &[a, b]),
     };
     match ground {
@@ -35,6 +38,7 @@ fn points_made(call: Call, a: &[u32], b: &[u32], offset: (i32, i32)) -> Vec<Poin
         Call::Move => moved(&of_shape(a), (offset.0.into(), offset.1.into())),
         Call::Join => joined(&of_shape(a), &of_shape(b)),
         Call::Sum => summed(&of_shape(a), &of_shape(b)),
+        Call::Plan => of_shape(a),
     }
 }
 
@@ -42,35 +46,44 @@ fn out_of_range(points: &[Point]) -> bool {
     excess(points).iter().any(|&over| over > 0)
 }
 
-fn too_short(out_n: usize) -> bool {
-    out_n < 17
+/// Ground 9: 32 words for a plan, 17 for a shape.
+fn too_short(call: Call, out_n: usize) -> bool {
+    match call {
+        Call::Plan => out_n < 32,
+        _ => out_n < 17,
+    }
 }
 
-/// Grounds 8 and 9, then the list: what the call answers and writes.
-pub fn finish(points: &Result<Vec<Point>, i64>, out: &mut [u32]) -> i64 {
-    let points = match points {
-        Err(number) => return -number,
-        Ok(points) => points,
+/// Grounds 8 to 10, then the list: what the call answers and writes.
+pub fn finish(call: Call, points: &Result<Vec<Point>, i64>, out: &mut [u32]) -> i64 {
+    let made = match points {
+        Err(number) => Err(*number),
+        // A shape's own points are never out of range, and planning doesn't ask.
+        Ok(points) if call != Call::Plan && out_of_range(points) => Err(8),
+        Ok(_) if too_short(call, out.len()) => Err(9),
+        Ok(points) if call == Call::Plan => match shortest(points) {
+            None => Err(10),
+            Some(masks) => Ok(to_plan_list(points, &masks)),
+        },
+        Ok(points) => Ok(to_list(points)),
     };
-    if out_of_range(points) {
-        return -8;
+    match made {
+        Err(number) => -number,
+        Ok(list) => {
+            out[..list.len()].copy_from_slice(&list);
+            list.len() as i64
+        }
     }
-    if too_short(out.len()) {
-        return -9;
-    }
-    let list = to_list(points);
-    out[..list.len()].copy_from_slice(&list);
-    list.len() as i64
 }
 
 /// The whole call.
 pub fn run(call: Call, a: &[u32], b: &[u32], offset: (i32, i32), out: &mut [u32]) -> i64 {
-    finish(&result_points(call, a, b, offset), out)
+    finish(call, &result_points(call, a, b, offset), out)
 }
 
 /// All grounds that hold, ground N as bit N, each tried by itself. Ground 8 is
-/// left out where 1, 2 or 3 holds or the points are none. Points made already
-/// are given, to save the work.
+/// left out where 1, 2 or 3 holds or the points are none, ground 10 where one of
+/// 1 to 4 holds. Points made already are given, to save the work.
 pub fn holding(case: &Case, made: Option<&[Point]>) -> u32 {
     let table: &[grounds::Ground] = match case.call {
         Call::ShapeOfPlan => &PLAN,
@@ -82,8 +95,12 @@ pub fn holding(case: &Case, made: Option<&[Point]>) -> u32 {
             held |= 1 << number;
         }
     }
-    if too_short(case.out_n) {
+    if too_short(case.call, case.out_n) {
         held |= 1 << 9;
+    }
+    if case.call == Call::Plan {
+        let none = made.is_some_and(|points| shortest(points).is_none());
+        return held | u32::from(none) << 10;
     }
     let far = match made {
         Some(points) => out_of_range(points),

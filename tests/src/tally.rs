@@ -110,7 +110,7 @@ impl Tally {
         let name = self.call.name();
         for &one in grounds {
             for &later in grounds.iter().filter(|&&later| later > one) {
-                if later == 8 && one < 4 {
+                if (later == 8 && one < 4) || (later == 10 && one <= 4) {
                     continue; // the points aren't given then
                 }
                 let count = self.pairs[one][later];

@@ -1,42 +1,11 @@
-//! (d) Document 01's own cases that touch these calls, with their answers
-//! written out. Each also goes through the reference.
+//! (d) Document 01's own cases that touch the calls on lists but planning, with their
+//! answers written out. Each also goes through the reference.
 
-use musqerpi_tests::cases::{hex, Call, Case};
-use musqerpi_tests::check::Checker;
-use musqerpi_tests::library;
+use musqerpi_tests::cases::{Call, Case};
+use musqerpi_tests::expect::{gives, refused};
 use musqerpi_tests::reference::grounds::is_stage;
 
 const ROW_OF_FOUR: [u32; 2] = [0x10000000, 0x2000000f];
-
-/// The case answers this list, and leaves the words past it.
-fn gives(case: &Case, list: &[u32]) {
-    Checker::new(7).check(case);
-    let mut out = vec![0xdead_beef; case.out_n];
-    let mut wanted = out.clone();
-    wanted[..list.len()].copy_from_slice(list);
-    let answer = library::run(case.call, &case.a, &case.b, (case.dx, case.dy), &mut out);
-    assert_eq!(answer, list.len() as i64, "{case}");
-    assert_eq!(
-        out,
-        wanted,
-        "{case}: found {}, wanted {}",
-        hex(&out),
-        hex(&wanted)
-    );
-}
-
-/// The case is refused on this ground, and nothing is written.
-fn refused(case: &Case, ground: i64) {
-    Checker::new(8).check(case);
-    let mut out = vec![0xdead_beef; case.out_n];
-    let answer = library::run(case.call, &case.a, &case.b, (case.dx, case.dy), &mut out);
-    assert_eq!(answer, -ground, "{case}");
-    assert!(
-        out.iter().all(|&word| word == 0xdead_beef),
-        "{case}: wrote {}",
-        hex(&out)
-    );
-}
 
 /// A shape list with `rows` rows of one cell, or as many words as asked past 16.
 fn tall(rows: u32) -> Vec<u32> {

@@ -34,6 +34,8 @@ fn edge_words() -> Vec<u32> {
 
 /// Output lengths: none, one short, just enough, more.
 const OUTPUTS: [usize; 4] = [0, 16, 17, 23];
+/// The same for a plan; 17 would do for a shape.
+const PLAN_OUTPUTS: [usize; 5] = [0, 17, 31, 32, 38];
 
 /// Valid shapes: one cell, a row, the window's far corner, two far cells, the full window.
 fn fixed_shapes() -> Vec<Vec<u32>> {
@@ -91,6 +93,19 @@ fn shapes_moved() {
         for out_n in OUTPUTS {
             checker.check(&Case::of_move(shape, 0, 0, out_n));
             checker.check(&Case::of_move(shape, 16, 0, out_n));
+        }
+    }
+}
+
+#[test]
+fn shapes_planned() {
+    let mut checker = Checker::new(6);
+    let mut shapes = lists_up_to(2);
+    shapes.extend(lists_after(&[0x10000000], 3));
+    shapes.extend(fixed_shapes());
+    for shape in &shapes {
+        for out_n in PLAN_OUTPUTS {
+            checker.check(&Case::of_planning(shape, out_n));
         }
     }
 }

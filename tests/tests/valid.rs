@@ -1,4 +1,4 @@
-//! (b) A million random valid cases for each call.
+//! (b) A million random valid cases for each call but planning, which has planning.rs.
 
 use musqerpi_tests::cases::Call;
 use musqerpi_tests::check::Checker;

@@ -104,7 +104,7 @@ module _ (ws out : List ℕ) (s : Shape) (W : Rows16 (s .rows)) (F : StandsFor (
   unplannable e r a = record { none = no-chain (shapePoints ws) s W F (S .none e); answer = a; kept = refl }
 
   pub few : found ≡ true → n ≤ 30
-  few e = subst (λ k. k ≤ 30) (length-chosen masks n) (at-most-30 (s .rows) W (chosen masks n) (S .some e .sums))
+  few e = subst (λ k. k ≤ 30) (length-chosen masks n) (at-most-30 stage (λ m t. t) (s .rows) W (chosen masks n) (S .some e .sums))
 
   pub written : found ≡ true → (k : ℕ) (out′ : List ℕ) (r : Answer) → stated r ≡ result k → WrittenPlan (s .x) (s .y) (chosen masks n) out k out′ → PlanWritten ws out r out′
   written e k out′ r a w = record {

@@ -13,7 +13,7 @@ use Rattle.plane.proofs.Tests.{T-and, T-dec, cond-ind}
 use Rattle.planning.specs.Printer.{digit, wordLine, wordLines, Reads}
 
 -- the two kinds of digits
-digit-is : (n : ℕ) → ((n < 10) × (digit n ≡ 48 + n)) ⊎ ((9 < n) × (digit n ≡ 87 + n))
+pub digit-is : (n : ℕ) → ((n < 10) × (digit n ≡ 48 + n)) ⊎ ((9 < n) × (digit n ≡ 87 + n))
 digit-is n = cond-ind (ltb n 10) (48 + n) (87 + n) (λ d. ((n < 10) × (d ≡ 48 + n)) ⊎ ((9 < n) × (d ≡ 87 + n))) (λ t. inl (ltb→lt n 10 t, refl)) high
   where
     high : T (not (ltb n 10)) → ((n < 10) × (87 + n ≡ 48 + n)) ⊎ ((9 < n) × (87 + n ≡ 87 + n))

@@ -1,6 +1,6 @@
 -- Which masks are tried at all: a stage of a list that sums to A leaves A equal to (A ⊖ m) ⊕ m, so a stage that does not is in no such list.
 use mathlib.Core.Path.{_≡_, refl, sym, _∙_, subst}
-use mathlib.Core.Bool.{not}
+use mathlib.Core.Bool.{Bool, not}
 use mathlib.Core.Logic.{_⊎_, inl, inr, ⊎-elim}
 use mathlib.Core.List.{List, _∷_}
 use Prim.Native.Nat.{ℕ, _+_, _≤_, _<_}
@@ -37,8 +37,8 @@ module _ (A : List ℕ) (wA : Rows16 A) (m : ℕ) (b : List ℕ) (bm : Same (At 
   whole-in x z h = let s = hc .to x z h in to-cell (At A) (s .at-x) (s .at-y) (ht .to (s .x1) (s .y1) (s .left) .all (s .x2) (s .y2) (s .right))
 
   -- where A is a sum with the mask, it is all of A
-  pub opens : (ns : List ℕ) → SumsTo stage (At A) ns → In ns m → Same (At A) (At c)
-  opens ns S h = record {
+  pub opens : (permitted : ℕ → Bool) (ns : List ℕ) → SumsTo permitted (At A) ns → In ns m → Same (At A) (At c)
+  opens permitted ns S h = record {
     to = λ x z a. let s = e .to x z a in
         hc .from x z (record { x1 = s .x1; y1 = s .y1; x2 = s .x2; y2 = s .y2; left = in-t (s .x1) (s .y1) (s .left) x z (omega (arith, s .at-x)) (omega (arith, s .at-y)) a; right = bm .from (s .x2) (s .y2) (s .right); at-x = s .at-x; at-y = s .at-y })
         (in-x A wA x z a) (in-y A wA x z a);
@@ -57,44 +57,46 @@ module _ (A : List ℕ) (wA : Rows16 A) (m : ℕ) (b : List ℕ) (bm : Same (At 
           ht .from u v (record { all = λ i j f. e .from (u + i) (v + j) (add-cells u v i j k (bm .to i j f)) })
           (omega (arith, in-x A wA x z a)) (omega (arith, in-y A wA x z a))
 
--- no stage, or one that leaves something else than A
-pub mark-none : (A : Cells) (m mark : ℕ) → mark ≡ 0 → (T (stage m) → (ns : List ℕ) → SumsTo stage A ns → In ns m → ⊥) → Mark A m mark
-mark-none A m mark z f = record { tried = λ e. absurd (omega arith); passed = λ g st ns S h. f st ns S h }
+module _ (permitted : ℕ → Bool) (A : Cells) where
+  -- a mask that is not permitted, or that leaves something else than A
+  pub mark-none : (m mark : ℕ) → mark ≡ 0 → (T (permitted m) → (ns : List ℕ) → SumsTo permitted A ns → In ns m → ⊥) → Mark permitted A m mark
+  mark-none m mark z f = record { tried = λ e. absurd (omega arith); passed = λ g st ns S h. f st ns S h }
 
-pub mark-one : (A : Cells) (m mark : ℕ) → mark ≡ 1 → T (stage m) → Mark A m mark
-mark-one A m mark e st = record { tried = λ _. st; passed = λ g. absurd (g e) }
+  pub mark-one : (m mark : ℕ) → mark ≡ 1 → T (permitted m) → Mark permitted A m mark
+  mark-one m mark e st = record { tried = λ _. st; passed = λ g. absurd (g e) }
 
--- ---- all masks
+  -- ---- all masks
 
-pub marked-none : (A : Cells) → Marked A 0 (replicate 512 0)
-marked-none A = record { room = refl; at = λ m l. absurd (omega arith); rest = λ m l. zero-at 512 m }
+  pub marked-none : Marked permitted A 0 (replicate 512 0)
+  marked-none = record { room = refl; at = λ m l. absurd (omega arith); rest = λ m l. zero-at 512 m }
 
-pub marked-more : (A : Cells) (n : ℕ) (marks : List ℕ) (v : ℕ) → n < 512 → Marked A n marks → Mark A n v → Marked A (n + 1) (set marks n v)
-marked-more A n marks v l M k = record {
-  room = length-set marks n v ∙ M .room;
-  at = λ m q. ⊎-elim
-      (λ e. subst (λ (j : ℕ). Mark A j (getD (set marks n v) j 0)) (sym e) (subst (Mark A n) (sym (getD-set-same marks n v 0 (omega (arith, M .room)))) k))
-      (λ w. subst (Mark A m) (sym (getD-set-other marks n m v 0 (λ e. omega arith))) (M .at m w))
-      (eq-or-lt-of-le {n = m} {m = n} (omega arith));
-  rest = λ m q. getD-set-other marks n m v 0 (λ e. omega arith) ∙ M .rest m (omega arith);
-}
-
-module _ (A : Cells) (marks : List ℕ) (M : Marked A 512 marks) where
-  pub marks-of : Marks marks
-  marks-of = record {
-    room = M .room;
-    stages = λ m t.
-        let e = eqb→eq (getD marks m 0) 1 t in
-        ⊎-elim (λ w. M .at m w .tried e) (λ w. let z = M .rest m w in absurd (omega arith)) (below-or m 512);
+  pub marked-more : (n : ℕ) (marks : List ℕ) (v : ℕ) → n < 512 → Marked permitted A n marks → Mark permitted A n v → Marked permitted A (n + 1) (set marks n v)
+  marked-more n marks v l M k = record {
+    room = length-set marks n v ∙ M .room;
+    at = λ m q. ⊎-elim
+        (λ e. subst (λ (j : ℕ). Mark permitted A j (getD (set marks n v) j 0)) (sym e) (subst (Mark permitted A n) (sym (getD-set-same marks n v 0 (omega (arith, M .room)))) k))
+        (λ w. subst (Mark permitted A m) (sym (getD-set-other marks n m v 0 (λ e. omega arith))) (M .at m w))
+        (eq-or-lt-of-le {n = m} {m = n} (omega arith));
+    rest = λ m q. getD-set-other marks n m v 0 (λ e. omega arith) ∙ M .rest m (omega arith);
   }
 
-  -- every stage of a list that sums to A is tried
-  pub all-tried : (ns : List ℕ) → SumsTo stage A ns → T (all (tries marks) ns)
-  all-tried ns S = all-In (tries marks) ns (λ m h. go m h (T-dec (tries marks m)))
-    where
-      go : (m : ℕ) → In ns m → T (tries marks m) ⊎ T (not (tries marks m)) → T (tries marks m)
-      go m h (inl t) = t
-      go m h (inr f) =
-          let st = In-all stage ns (S .masks) m h in
-          let k = M .at m (stage-below m st) in
-          absurd (k .passed (λ e. clash (tries marks m) f (eq-eqb e)) st ns S h)
+  module _ (sub : (m : ℕ) → T (permitted m) → T (stage m)) (marks : List ℕ) (M : Marked permitted A 512 marks) where
+    -- what is tried is permitted
+    pub tried-permitted : (m : ℕ) → T (tries marks m) → T (permitted m)
+    tried-permitted m t =
+        let e = eqb→eq (getD marks m 0) 1 t in
+        ⊎-elim (λ w. M .at m w .tried e) (λ w. let z = M .rest m w in absurd (omega arith)) (below-or m 512)
+
+    pub marks-of : Marks marks
+    marks-of = record { room = M .room; stages = λ m t. sub m (tried-permitted m t) }
+
+    -- every mask of a list that sums to A is tried
+    pub all-tried : (ns : List ℕ) → SumsTo permitted A ns → T (all (tries marks) ns)
+    all-tried ns S = all-In (tries marks) ns (λ m h. go m h (T-dec (tries marks m)))
+      where
+        go : (m : ℕ) → In ns m → T (tries marks m) ⊎ T (not (tries marks m)) → T (tries marks m)
+        go m h (inl t) = t
+        go m h (inr f) =
+            let st = In-all permitted ns (S .masks) m h in
+            let k = M .at m (stage-below m (sub m st)) in
+            absurd (k .passed (λ e. clash (tries marks m) f (eq-eqb e)) st ns S h)

@@ -65,13 +65,13 @@ pub record Marks (marks : List ℕ) : Type 0 where
   pub room : length marks ≡ 512
   pub stages : (m : ℕ) → T (tries marks m) → T (stage m)
 
--- the mark of m: 1 only for a stage, and no sum of stages that is A has an unmarked one
-pub record Mark (A : Cells) (m mark : ℕ) : Type 0 where
-  pub tried : mark ≡ 1 → T (stage m)
-  pub passed : (mark ≡ 1 → ⊥) → T (stage m) → (ns : List ℕ) → SumsTo stage A ns → In ns m → ⊥
+-- the mark of m: 1 only for a permitted mask, and no sum of permitted masks that is A has an unmarked one
+pub record Mark (permitted : ℕ → Bool) (A : Cells) (m mark : ℕ) : Type 0 where
+  pub tried : mark ≡ 1 → T (permitted m)
+  pub passed : (mark ≡ 1 → ⊥) → T (permitted m) → (ns : List ℕ) → SumsTo permitted A ns → In ns m → ⊥
 
 -- the marks of all masks below n
-pub record Marked (A : Cells) (n : ℕ) (marks : List ℕ) : Type 0 where
+pub record Marked (permitted : ℕ → Bool) (A : Cells) (n : ℕ) (marks : List ℕ) : Type 0 where
   pub room : length marks ≡ 512
-  pub at : (m : ℕ) → m < n → Mark A m (getD marks m 0)
+  pub at : (m : ℕ) → m < n → Mark permitted A m (getD marks m 0)
   pub rest : (m : ℕ) → n ≤ m → getD marks m 0 ≡ 0

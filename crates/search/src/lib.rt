@@ -157,7 +157,7 @@ fn stage(s: State, marks: &[u8], k: usize, m: u16) -> Line
 
 // 1 for a stage that leaves the cells equal to (cells ⊖ m) ⊕ m, as each stage of a plan of them does; else 0.
 fn mark(cells: [u16; 16], m: u16) -> u8
-    ensures { λ r. ⌜ Mark (At cells) m r ⌝ }
+    ensures { λ r. ⌜ Mark isStage (At cells) m r ⌝ }
 {
     if !stages::is_stage(m as u32) {
         return 0;
@@ -170,7 +170,7 @@ fn mark(cells: [u16; 16], m: u16) -> u8
 
 // The marks of all masks.
 fn marked(cells: [u16; 16]) -> [u8; 512]
-    ensures { λ r. ⌜ Marked (At cells) 512 r ⌝ }
+    ensures { λ r. ⌜ Marked isStage (At cells) 512 r ⌝ }
 {
     let mut marks = [0u8; 512];
     let mut m: u16 = 0;

@@ -19,7 +19,7 @@ impl Maker {
 /// One damage: to the output's length, or to one of the lists.
 pub fn damage(case: &mut Case, random: &mut Random) {
     if random.once_in(8) {
-        case.out_n = random.below(17);
+        case.out_n = random.below(case.call.least_output());
         return;
     }
     let second = case.call.takes_two_lists() && random.once_in(2);

@@ -2,6 +2,7 @@
 use borrow.Author.Needs.{needs}
 use native.Mathlib.Omega.{arith}
 use Prim.Native.Nat.{_-_, _+_, _≤_}
+use Rattle.masks.specs.Mask.{stage}
 use Rattle.rows.specs.Cells.{At}
 use Rattle.search.proofs.Lengths.{NoneBelow, start-kept, none-short, none-more, none-found, found-first}
 use Rattle.search.proofs.Marking.{marks-of}
@@ -9,7 +10,7 @@ use Rattle.search.proofs.deepening.Statement.{statement}
 use Rattle.search.proofs.deepening.Tie as tie
 
 abbrev Inv-loop : tie.InvT-loop
-Inv-loop w h marks s k₀ k = (k ≤ w + h + 1) × NoneBelow (At (s .target)) k
+Inv-loop w h marks s k₀ k = (k ≤ w + h + 1) × NoneBelow stage (λ m t. t) (At (s .target)) k
 
 abbrev μ-loop : tie.MeasureT-loop
 μ-loop w h marks s k₀ k = w + h + 1 - k
@@ -24,7 +25,7 @@ loop-holds : tie.Need-loop-holds Inv-loop μ-loop
 loop-holds c =
     let st = c .before .before in
     let q = c .least-count .ensures in
-    (omega arith, none-short (At (st .args .cells)) (st .args .w) (st .args .h) (c .least-count .result) (st .pre .1 .1 .0) (st .pre .1 .1 .1) q)
+    (omega arith, none-short stage (λ m t. t) (At (st .args .cells)) (st .args .w) (st .args .h) (c .least-count .result) (st .pre .1 .1 .0) (st .pre .1 .1 .1) q)
 
 add-loop : tie.Need-add-loop Inv-loop μ-loop
 add-loop c = search needs
@@ -36,7 +37,7 @@ node-requires : tie.Need-node-requires Inv-loop μ-loop
 node-requires c κs =
     let st = c .before .before .before .before .before in
     let k = c .before .before .loop in
-    (omega arith, (omega arith, (marks-of (At (st .args .cells)) (c .before .before .before .before .marked .result) (c .before .before .before .before .marked .ensures), start-kept (st .args .cells) (st .args .w) (st .args .h) (st .pre .1 .1 .0) (st .pre .1 .1 .1))))
+    (omega arith, (omega arith, (marks-of stage (At (st .args .cells)) (λ m t. t) (c .before .before .before .before .marked .result) (c .before .before .before .before .marked .ensures), start-kept (st .args .cells) (st .args .w) (st .args .h) (st .pre .1 .1 .0) (st .pre .1 .1 .1))))
 
 returns : tie.Need-returns Inv-loop μ-loop
 returns c =
@@ -44,7 +45,7 @@ returns c =
     let m = c .before .before .before .before .before .before .before .marked in
     let l = c .before .before .before .before .before .loop in
     let n = c .before .before .node in
-    found-first (At (st .args .cells)) (m .result) (m .ensures) (l .k) (l .inv .1) (n .result .found) (n .result .masks) (n .ensures) (c .before .if1 .taken)
+    found-first stage (λ m t. t) (At (st .args .cells)) (m .result) (m .ensures) (l .k) (l .inv .1) (n .result .found) (n .result .masks) (n .ensures) (c .before .if1 .taken)
 
 add-k : tie.Need-add-k Inv-loop μ-loop
 add-k c = search needs
@@ -58,12 +59,12 @@ loop-again c =
     let m = c .before .before .before .before .before .before .marked in
     let l = c .before .before .before .before .loop in
     let n = c .before .node in
-    (omega arith, none-more (At (st .args .cells)) (m .result) (m .ensures) (l .k) (l .inv .1) (n .result .found) (n .result .masks) (n .ensures) (c .if1 .left))
+    (omega arith, none-more stage (λ m t. t) (At (st .args .cells)) (m .result) (m .ensures) (l .k) (l .inv .1) (n .result .found) (n .result .masks) (n .ensures) (c .if1 .left))
 
 returns-2 : tie.Need-returns-2 Inv-loop μ-loop
 returns-2 c =
     let st = c .before .before .before .before in
-    none-found (At (st .args .cells)) (st .args .w) (st .args .h) (c .before .loop .k) (st .pre .1 .1 .0) (st .pre .1 .1 .1) (c .before .loop .inv .1) (omega arith)
+    none-found stage (λ m t. t) (At (st .args .cells)) (st .args .w) (st .args .h) (c .before .loop .k) (st .pre .1 .1 .0) (st .pre .1 .1 .1) (c .before .loop .inv .1) (omega arith)
 
 pub deepening-spec : {M : Type 1} → statement M
 deepening-spec =

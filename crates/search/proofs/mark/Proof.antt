@@ -16,7 +16,7 @@ is-stage-requires c κs = search needs
 returns : tie.Need-returns
 returns c =
     let st = c .before .before in
-    mark-none _ (st .args .m) _ refl (λ t. absurd (subst T (sym (c .before .is-stage .ensures) ∙ not-true _ (c .if1 .taken)) t))
+    mark-none stage _ (st .args .m) _ refl (λ t. absurd (subst T (sym (c .before .is-stage .ensures) ∙ not-true _ (c .if1 .taken)) t))
 
 mask-rows-requires : tie.Need-mask-rows-requires
 mask-rows-requires c κs = search needs
@@ -33,7 +33,7 @@ same-requires c κs = search needs
 returns-2 : tie.Need-returns-2
 returns-2 c =
     let st = c .before .before .before .before .before .before .before in
-    mark-one _ (st .args .m) _ refl (subst T (sym (not-false _ (c .before .before .before .before .before .if1 .left)) ∙ c .before .before .before .before .before .before .is-stage .ensures) tt)
+    mark-one stage _ (st .args .m) _ refl (subst T (sym (not-false _ (c .before .before .before .before .before .if1 .left)) ∙ c .before .before .before .before .before .before .is-stage .ensures) tt)
 
 returns-3 : tie.Need-returns-3
 returns-3 c =
@@ -41,8 +41,8 @@ returns-3 c =
     let b = c .before .before .before .before .mask-rows in
     let r = c .before .before .before .residue-of in
     let u = c .before .before .sum-of in
-    mark-none _ (st .args .m) _ refl (λ t ns S h. c .before .same .ensures .1 (c .if2 .left)
-    (opens (st .args .cells) (rows16 (st .args .cells) _ (st .good .0)) (st .args .m) (b .result) (stage-rows (st .args .m) t (b .ensures)) (r .result) (r .ensures) (u .result) (u .ensures) ns S h))
+    mark-none stage _ (st .args .m) _ refl (λ t ns S h. c .before .same .ensures .1 (c .if2 .left)
+    (opens (st .args .cells) (rows16 (st .args .cells) _ (st .good .0)) (st .args .m) (b .result) (stage-rows (st .args .m) t (b .ensures)) (r .result) (r .ensures) (u .result) (u .ensures) stage ns S h))
 
 pub mark-spec : {M : Type 1} → statement M
 mark-spec =

@@ -3,6 +3,7 @@ use borrow.Author.Needs.{needs}
 use native.Mathlib.Omega.{arith}
 use mathlib.Core.Path.{_≡_, subst}
 use Prim.Native.Nat.{_-_, _≤_}
+use Rattle.masks.specs.Mask.{stage}
 use Rattle.rows.specs.Cells.{At}
 use Rattle.search.specs.Tree.{Marked}
 use Rattle.search.proofs.Marking.{marked-none, marked-more}
@@ -10,13 +11,13 @@ use Rattle.search.proofs.marked.Statement.{statement}
 use Rattle.search.proofs.marked.Tie as tie
 
 abbrev Inv-loop : tie.InvT-loop
-Inv-loop cells marks₀ m₀ marks m = (m ≤ 512) × Marked (At cells) m marks
+Inv-loop cells marks₀ m₀ marks m = (m ≤ 512) × Marked stage (At cells) m marks
 
 abbrev μ-loop : tie.MeasureT-loop
 μ-loop cells marks₀ m₀ marks m = 512 - m
 
 loop-holds : tie.Need-loop-holds Inv-loop μ-loop
-loop-holds c = (omega arith, marked-none _)
+loop-holds c = (omega arith, marked-none stage _)
 
 mark-requires : tie.Need-mark-requires Inv-loop μ-loop
 mark-requires c κs = search needs
@@ -36,13 +37,13 @@ loop-less c = search needs
 loop-again : tie.Need-loop-again Inv-loop μ-loop
 loop-again c =
     let l = c .before .before .loop in
-    (omega arith, marked-more _ (l .m) (l .marks) (c .mark .result) (omega arith) (l .inv .1) (c .mark .ensures))
+    (omega arith, marked-more stage _ (l .m) (l .marks) (c .mark .result) (omega arith) (l .inv .1) (c .mark .ensures))
 
 returns : tie.Need-returns Inv-loop μ-loop
 returns c =
     let l = c .before .loop in
     let e : l .m ≡ 512 = (let q = l .inv .0 in omega arith) in
-    subst (λ n. Marked (At (c .before .before .args .cells)) n (l .marks)) e (l .inv .1)
+    subst (λ n. Marked stage (At (c .before .before .args .cells)) n (l .marks)) e (l .inv .1)
 
 pub marked-spec : {M : Type 1} → statement M
 marked-spec =

@@ -1,5 +1,6 @@
 -- No cell, or the extents of the cells and the search.
 use borrow.Author.Needs.{needs}
+use Rattle.masks.specs.Mask.{stage}
 use Rattle.extents.specs.Extents.{row, column}
 use Rattle.extents.proofs.Search.{last-at}
 use Rattle.rows.proofs.Known.{rows16}
@@ -11,7 +12,7 @@ empty-requires : tie.Need-empty-requires
 empty-requires c κs = search needs
 
 returns : tie.Need-returns
-returns c = none-empty _ (c .before .empty .ensures .0 (c .if1 .taken))
+returns c = none-empty stage (λ m t. t) _ (c .before .empty .ensures .0 (c .if1 .taken))
 
 last-column-requires : tie.Need-last-column-requires
 last-column-requires c κs = search needs
