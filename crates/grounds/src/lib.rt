@@ -1,15 +1,13 @@
-// What refuses a shape list, two shape lists or a plan list: the first of grounds 1 to 8 of document 01 that holds; Done(0) where none does.
-// `lists` has the tests of any list, `shape` those of a shape list, `pair` those of two, `plan` those of a plan list. None builds a point.
-mod lists;
+// What refuses a shape list or two: the first of grounds 1 to 4 of document 01 that holds; Done(0) where none does.
+// `lists` has the tests of any list, `shape` those of a shape list, `pair` those of two. None builds a point.
+pub mod lists;
 mod pair;
-mod plan;
 mod shape;
 
 use words::Answer;
 ghost use mathlib.Core.Path.{_≡_};
 ghost use Rattle.words.specs.Ground.{stated, refusal, firstOf, both};
 ghost use Rattle.shapes.specs.Shape.{shapeTests};
-ghost use Rattle.shapes.specs.Plan.{planTests};
 
 // What refuses a shape list: the first of grounds 1 to 4 that holds, each tried over the whole list; Done(0) where none does.
 pub fn shape_refusal(ws: &[u32]) -> Answer
@@ -23,11 +21,4 @@ pub fn shapes_refusal(ws: &[u32], vs: &[u32]) -> Answer
     ensures { λ r. ⌜ stated r ≡ refusal (firstOf (both (shapeTests (now (ws .entry))) (shapeTests (now (vs .entry))))) ⌝ }
 {
     pair::refused(ws, vs)
-}
-
-// What refuses a plan list: the first of grounds 1 to 3 and 5 to 8 that holds; Done(0) where none does.
-pub fn plan_refusal(ws: &[u32]) -> Answer
-    ensures { λ r. ⌜ stated r ≡ refusal (firstOf (planTests (now (ws .entry)))) ⌝ }
-{
-    plan::refused(ws)
 }

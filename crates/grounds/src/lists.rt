@@ -7,7 +7,7 @@ ghost use Rattle.shapes.specs.Shape.{notWithin};
 ghost use Rattle.grounds.specs.Leaves.{reaches};
 
 // Ground 1: whether a list has fewer than low words, or more than high.
-pub(crate) fn wrong_length(ws: &[u32], low: usize, high: usize) -> bool
+pub fn wrong_length(ws: &[u32], low: usize, high: usize) -> bool
     ensures { λ r. ⌜ r ≡ notWithin low high (now (ws .entry)) ⌝ }
 {
     if ws.len() < low {
@@ -17,7 +17,7 @@ pub(crate) fn wrong_length(ws: &[u32], low: usize, high: usize) -> bool
 }
 
 // Ground 2: whether some word from start on has another kind.
-pub(crate) fn wrong_kind(ws: &[u32], start: usize, kind: u32) -> bool
+pub fn wrong_kind(ws: &[u32], start: usize, kind: u32) -> bool
     ensures { λ r. ⌜ r ≡ any (wrongKind kind) (drop start (now (ws .entry))) ⌝ }
 {
     let mut i = start;
@@ -31,7 +31,7 @@ pub(crate) fn wrong_kind(ws: &[u32], start: usize, kind: u32) -> bool
 }
 
 // Ground 3: whether below its kind some word from start on is limit or more, where the bits below limit are those that the kind names.
-pub(crate) fn extra_bit(ws: &[u32], start: usize, limit: u32) -> bool
+pub fn extra_bit(ws: &[u32], start: usize, limit: u32) -> bool
     ensures { λ r. ⌜ r ≡ any (reaches limit) (drop start (now (ws .entry))) ⌝ }
 {
     let mut i = start;

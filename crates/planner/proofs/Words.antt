@@ -4,7 +4,7 @@ use mathlib.Core.List.{List, [], _∷_, _++_, map, map-append}
 use Prim.Native.Nat.{ℕ, zero, suc, _+_, _-_, _≤_, _<_}
 use native.Mathlib.Omega.{arith}
 use native.Mathlib.Numerals.{add-one}
-use lib.ListN.{length, getD, drop, take, set, length-map, length-take}
+use lib.ListN.{length, getD, drop, take, set, length-set, length-map, length-take}
 use lib.Seq.{take-suc, take-length, drop-set-lt}
 use Rattle.words.specs.Word.{headWord, placeWord, stageWord}
 use Rattle.lists.proofs.Written.{Written, written-more}
@@ -32,10 +32,24 @@ module _ (x y : ℕ) (masks : List ℕ) (n : ℕ) where
   abbrev pub WrittenTo : List ℕ → ℕ → List ℕ → Type 0
   WrittenTo out i now = Written (wordsTo i) out (i + 2) now
 
-  pub head-place : (out : List ℕ) (v w : ℕ) → 2 ≤ length out → v ≡ headWord n → w ≡ placeWord x y → WrittenTo (set (set out 0 v) 1 w) 0 (set (set out 0 v) 1 w)
+  head-place : (out : List ℕ) (v w : ℕ) → 2 ≤ length out → v ≡ headWord n → w ≡ placeWord x y → WrittenTo (set (set out 0 v) 1 w) 0 (set (set out 0 v) 1 w)
   head-place [] v w h e f = absurd (omega arith)
   head-place (a ∷ []) v w h e f = absurd (let l : 2 ≤ 1 = h in omega arith)
   head-place (a ∷ b ∷ out) v w h e f = record { count = refl; words = ap₂ (λ c d. c ∷ d ∷ out) e f }
+
+  -- there is room after the first word, and when both are written the loop can start
+  pub still-room : (out : List ℕ) (v : ℕ) → 32 ≤ length out → 1 < length (set out 0 v)
+  still-room out v h = let l = length-set out 0 v in omega arith
+
+  pub kept-length : (out now : List ℕ) (v w : ℕ) → length now ≡ length (set (set out 0 v) 1 w) → length now ≡ length out
+  kept-length out now v w e = e ∙ length-set (set out 0 v) 1 w ∙ length-set out 0 v
+
+  pub started : (out : List ℕ) (v w : ℕ) → 32 ≤ length out → n ≤ 30 → v ≡ headWord n → w ≡ placeWord x y
+      → (0 ≤ n) × ((n ≤ 30) × (32 ≤ length (set (set out 0 v) 1 w)))
+      × ((length (set (set out 0 v) 1 w) ≡ length (set (set out 0 v) 1 w)) × WrittenTo (set (set out 0 v) 1 w) 0 (set (set out 0 v) 1 w))
+  started out v w h k e f =
+      let l = length-set (set out 0 v) 1 w ∙ length-set out 0 v in
+      (omega arith, (k, omega (arith, l)), (refl, head-place out v w (omega arith) e f))
 
   to-length : (i : ℕ) → i ≤ n → length (wordsTo i) ≡ i + 2
   to-length i h =
@@ -57,8 +71,9 @@ module _ (x y : ℕ) (masks : List ℕ) (n : ℕ) where
       subst (λ k. Written (wordsTo (i + 1)) out k (set now (i + 2) v)) d (subst (λ l. Written l out (i + 2 + 1) (set now (i + 2) v)) (sym q) w)
 
   -- past the list the words are those at entry
-  pub all-written : (out now : List ℕ) (v w r : ℕ) → r ≡ n + 2 → WrittenTo (set (set out 0 v) 1 w) n now → WrittenPlan x y L out r now
-  all-written out now v w r e p =
+  pub all-written : (out now : List ℕ) (v w i r : ℕ) → i ≡ n → r ≡ n + 2 → WrittenTo (set (set out 0 v) 1 w) i now → WrittenPlan x y L out r now
+  all-written out now v w i r d e p₀ =
+      let p = subst (λ k. WrittenTo (set (set out 0 v) 1 w) k now) d p₀ in
       let m = length-chosen masks n in
       let t : take n L ≡ L = ap (λ k. take k L) (sym m) ∙ take-length L in
       let q : wordsTo n ≡ wordsOf x y L = ap₂ (λ k l. headWord k ∷ placeWord x y ∷ map stageWord l) (sym m) t in

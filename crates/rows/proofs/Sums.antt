@@ -102,6 +102,16 @@ module _ (a b : List ℕ) where
         (last-or j n l);
   }
 
+  -- a row without a cell adds nothing
+  pub sum-skip : (n : ℕ) (r : List ℕ) → getD b n 0 ≡ 0 → SumTo a b n r → SumTo a b (n + 1) r
+  sum-skip n r z p = record {
+    to = p .to;
+    from = λ i j l u x y h v w. ⊎-elim
+        (λ q. absurd (no-bit i (ap (λ (k : ℕ). bit k i) (sym z) ∙ subst (λ (k : ℕ). At b i k) q u)))
+        (λ q. p .from i j q u x y h v w)
+        (last-or j n l);
+  }
+
   pub sum-done : Rows16 b → (r : List ℕ) → SumTo a b 16 r → SumOf a b r
   sum-done wb r p = record {
     to = p .to;
@@ -167,6 +177,15 @@ module _ (t b : List ℕ) where
         (λ q. p .to x y (o .kept x y h) i j q u)
         (last-or j n l);
     from = λ x y u v f. o .from x y (p .from x y u v (λ i j l. f i j (omega arith))) (λ i l e. f i n (omega arith) e);
+  }
+
+  pub residue-skip : (n : ℕ) (r : List ℕ) → getD b n 0 ≡ 0 → ResidueTo t b n r → ResidueTo t b (n + 1) r
+  residue-skip n r z p = record {
+    to = λ x y h i j l u. ⊎-elim
+        (λ q. absurd (no-bit i (ap (λ (k : ℕ). bit k i) (sym z) ∙ subst (λ (k : ℕ). At b i k) q u)))
+        (λ q. p .to x y h i j q u)
+        (last-or j n l);
+    from = λ x y u v f. p .from x y u v (λ i j l. f i j (omega arith));
   }
 
   pub residue-done : Rows16 b → (r : List ℕ) → ResidueTo t b 16 r → ResidueOf t b r

@@ -74,8 +74,11 @@ pub fn sum_of(a: [u16; 16], b: [u16; 16]) -> [u16; 16]
     let mut r = [0u16; 16];
     let mut j = 0;
     while j < 16 {
-        let next = row_sum(r, a, b[j], j);
-        r = next;
+        let row = b[j];
+        if row != 0 {
+            let next = row_sum(r, a, row, j);
+            r = next;
+        }
         j += 1;
     }
     r
@@ -108,8 +111,11 @@ pub fn residue_of(t: [u16; 16], b: [u16; 16]) -> [u16; 16]
     let mut r = [65535u16; 16];
     let mut j = 0;
     while j < 16 {
-        let next = row_residue(r, t, b[j], j);
-        r = next;
+        let row = b[j];
+        if row != 0 {
+            let next = row_residue(r, t, row, j);
+            r = next;
+        }
         j += 1;
     }
     r

@@ -102,7 +102,7 @@ pub fn sum_shapes(ws: &[u32], vs: &[u32], out: &mut [u32]) -> Answer
 pub fn shape_of_plan(ws: &[u32], out: &mut [u32]) -> Answer
     ensures { λ r. ⌜ TurnedBack (now (ws .entry)) (now (out .entry)) r (now (out .exit)) ⌝ }
 {
-    let tested = grounds::plan_refusal(ws);
+    let tested = plan_grounds::plan_refusal(ws);
     if let Answer::Refused(ground) = tested {
         return Answer::Refused(ground);
     }

@@ -1,11 +1,11 @@
 -- The invariant: out holds the head, the place and the first i stages, and past them what it held.
 use borrow.Author.Needs.{needs}
-use mathlib.Core.Path.{_≡_, refl, subst, _∙_}
+use mathlib.Core.Path.{_≡_, refl, _∙_}
 use native.Mathlib.Omega.{arith}
-use Prim.Native.Nat.{_-_, _+_, _*_, _≤_}
-use lib.ListN.{length, length-set, set, getD}
+use Prim.Native.Nat.{_-_, _+_, _≤_}
+use lib.ListN.{length, length-set, getD}
 use Rattle.rows.proofs.Known.{field-below}
-use Rattle.planner.proofs.Words.{WrittenTo, head-place, stage-more, all-written}
+use Rattle.planner.proofs.Words.{WrittenTo, still-room, kept-length, started, stage-more, all-written}
 use Rattle.planner.proofs.write_plan.Statement.{statement}
 use Rattle.planner.proofs.write_plan.Tie as tie
 
@@ -34,16 +34,10 @@ add-out-3 : tie.Need-add-out-3 Inv-loop μ-loop
 add-out-3 c = search needs
 
 slice-write-out-2 : tie.Need-slice-write-out-2 Inv-loop μ-loop
-slice-write-out-2 c = let st = c .before in let l = length-set (st .args .out .now) 0 (805306368 + st .args .p .n) in omega (arith, l)
+slice-write-out-2 c = let st = c .before in still-room (st .args .x) (st .args .y) (st .args .p .masks) (st .args .p .n) (st .args .out .now) _ (st .pre .1 .1 .1)
 
 loop-holds : tie.Need-loop-holds Inv-loop μ-loop
-loop-holds c =
-    let st = c .before in
-    let o = st .args .out .now in
-    let v = 805306368 + st .args .p .n in
-    let w = 1073741824 + st .args .y * 256 + st .args .x in
-    let l : length (set (set o 0 v) 1 w) ≡ length o = length-set (set o 0 v) 1 w ∙ length-set o 0 v in
-    (omega arith, (omega arith, omega (arith, l)), (refl, head-place (st .args .x) (st .args .y) (st .args .p .masks) (st .args .p .n) o v w (omega arith) refl refl))
+loop-holds c = let st = c .before in started (st .args .x) (st .args .y) (st .args .p .masks) (st .args .p .n) (st .args .out .now) _ _ (st .pre .1 .1 .1) (st .pre .1 .1 .0) refl refl
 
 sub-out : tie.Need-sub-out Inv-loop μ-loop
 sub-out c = search needs
@@ -104,20 +98,15 @@ add-result c = search needs
 same-length : tie.Need-same-length Inv-loop μ-loop
 same-length c =
     let st = c .before .before .before in
-    let o = st .args .out .now in
-    let v = 805306368 + st .args .p .n in
-    c .before .loop .inv .2 .0 ∙ length-set (set o 0 v) 1 (1073741824 + st .args .y * 256 + st .args .x) ∙ length-set o 0 v
+    let l = c .before .loop in
+    kept-length (st .args .x) (st .args .y) (st .args .p .masks) (st .args .p .n) (st .args .out .now) (l .out) _ _ (l .inv .2 .0)
 
 returns : tie.Need-returns Inv-loop μ-loop
 returns c =
     let st = c .before .before .before in
     let l = c .before .loop in
-    let o = st .args .out .now in
-    let v = 805306368 + st .args .p .n in
-    let w = 1073741824 + st .args .y * 256 + st .args .x in
     let e : l .i ≡ st .args .p .n = omega arith in
-    all-written (st .args .x) (st .args .y) (st .args .p .masks) (st .args .p .n) o (l .out) v w _ refl
-    (subst (λ i. WrittenTo (st .args .x) (st .args .y) (st .args .p .masks) (st .args .p .n) (set (set o 0 v) 1 w) i (l .out)) e (l .inv .2 .1))
+    all-written (st .args .x) (st .args .y) (st .args .p .masks) (st .args .p .n) (st .args .out .now) (l .out) _ _ (l .i) _ e refl (l .inv .2 .1)
 
 pub write-plan-spec : {M : Type 1} → statement M
 write-plan-spec =

@@ -1,11 +1,12 @@
--- The invariant: r is the sum of a and the rows of b before j. The measure: the rows left.
+-- The invariant: r is the sum of a and the rows of b before j. A row without a cell changes nothing. The measure: the rows left.
 use borrow.Author.Needs.{needs}
 use native.Mathlib.Omega.{arith}
-use mathlib.Core.Path.{_≡_, subst}
-use Prim.Native.Nat.{ℕ, _≤_, _-_}
+use mathlib.Core.Path.{_≡_, sym, subst}
+use mathlib.Core.Logic.{⊎-elim}
+use Prim.Native.Nat.{ℕ, _≤_, _+_, _-_}
 use Rattle.rows.specs.Leaves.{SumTo}
 use Rattle.rows.proofs.Known.{rows16}
-use Rattle.rows.proofs.Sums.{sum-none, sum-more, sum-done}
+use Rattle.rows.proofs.Sums.{sum-none, sum-more, sum-skip, sum-done}
 use Rattle.rows.proofs.sum_of.Statement.{statement}
 use Rattle.rows.proofs.sum_of.Tie as tie
 
@@ -18,11 +19,11 @@ abbrev μ-loop : tie.MeasureT-loop
 loop-holds : tie.Need-loop-holds Inv-loop μ-loop
 loop-holds c = (omega arith, sum-none _ _)
 
-mul-row-sum : tie.Need-mul-row-sum Inv-loop μ-loop
-mul-row-sum c = search needs
+mul-row : tie.Need-mul-row Inv-loop μ-loop
+mul-row c = search needs
 
-array-read-row-sum : tie.Need-array-read-row-sum Inv-loop μ-loop
-array-read-row-sum c = search needs
+array-read-row : tie.Need-array-read-row Inv-loop μ-loop
+array-read-row c = search needs
 
 row-sum-requires : tie.Need-row-sum-requires Inv-loop μ-loop
 row-sum-requires c κs = search needs
@@ -36,8 +37,14 @@ loop-less c = search needs
 loop-again : tie.Need-loop-again Inv-loop μ-loop
 loop-again c =
     let st = c .before .before .before in
-    let h = c .before .before in
-    (omega arith, sum-more (st .args .a) (st .args .t2) (rows16 (st .args .t2) _ (st .good .1 .0)) (h .loop .j) (h .loop .r) (c .row-sum .result) (h .loop .inv .1) (c .row-sum .ensures))
+    let h = c .before .before .loop in
+    let next = SumTo (st .args .a) (st .args .t2) (h .j + 1) in (
+      omega arith,
+      ⊎-elim
+          (λ w. subst next (sym (w .2)) (sum-more (st .args .a) (st .args .t2) (rows16 (st .args .t2) _ (st .good .1 .0)) (h .j) (h .r) (w .1 .result) (h .inv .1) (w .1 .ensures)))
+          (λ w. subst next (sym (w .1)) (sum-skip (st .args .a) (st .args .t2) (h .j) (h .r) (w .0 .left) (h .inv .1)))
+          (c .if1 .came),
+    )
 
 returns : tie.Need-returns Inv-loop μ-loop
 returns c =
@@ -52,8 +59,8 @@ sum-of-spec =
     Inv-loop
     μ-loop
     loop-holds
-    mul-row-sum
-    array-read-row-sum
+    mul-row
+    array-read-row
     row-sum-requires
     add-j
     loop-less

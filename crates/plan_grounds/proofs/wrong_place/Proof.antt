@@ -1,8 +1,8 @@
 -- The two fields in turn.
 use borrow.Author.Needs.{needs}
 use borrow.Author.Tests.{lt-ltb, le-ltb}
-use Rattle.grounds.proofs.plan.wrong_place.Statement.{statement}
-use Rattle.grounds.proofs.plan.wrong_place.Tie as tie
+use Rattle.plan_grounds.proofs.wrong_place.Statement.{statement}
+use Rattle.plan_grounds.proofs.wrong_place.Tie as tie
 
 shared-slice-read-if1 : tie.Need-shared-slice-read-if1
 shared-slice-read-if1 c = search needs

@@ -22,7 +22,7 @@ use Rattle.shapes.specs.Plan.{planMasks, planOffset, planPoints, wrongMasks}
 use Rattle.shapes.specs.Shape.{outOfRange}
 use Rattle.shapes.proofs.Range.{range-is, biased-offside}
 use Rattle.shapes.proofs.Written.{plan-itself}
-use Rattle.grounds.specs.Leaves.{falls, extentOf}
+use Rattle.plan_grounds.specs.Leaves.{falls, extentOf}
 use Rattle.plane.specs.Point.{Point}
 
 -- ---- ground 7

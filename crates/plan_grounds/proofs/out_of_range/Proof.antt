@@ -8,10 +8,10 @@ use borrow.Author.Tests.{lt-ltb, le-ltb}
 use lib.Dec.{ltb}
 use lib.ListN.{getD, drop}
 use Rattle.words.specs.Word.{placeX, placeY}
-use Rattle.grounds.specs.Leaves.{extentOf}
-use Rattle.grounds.proofs.Stages.{range-tried}
-use Rattle.grounds.proofs.plan.out_of_range.Statement.{statement}
-use Rattle.grounds.proofs.plan.out_of_range.Tie as tie
+use Rattle.plan_grounds.specs.Leaves.{extentOf}
+use Rattle.plan_grounds.proofs.Stages.{range-tried}
+use Rattle.plan_grounds.proofs.out_of_range.Statement.{statement}
+use Rattle.plan_grounds.proofs.out_of_range.Tie as tie
 
 extent-requires : tie.Need-extent-requires
 extent-requires c κs = search needs

@@ -1,8 +1,8 @@
 -- The head, the place, then the stages.
 use borrow.Author.Needs.{needs}
 use borrow.Author.Tests.{eq-eqb, ne-eqb}
-use Rattle.grounds.proofs.plan.wrong_kinds.Statement.{statement}
-use Rattle.grounds.proofs.plan.wrong_kinds.Tie as tie
+use Rattle.plan_grounds.proofs.wrong_kinds.Statement.{statement}
+use Rattle.plan_grounds.proofs.wrong_kinds.Tie as tie
 
 shared-slice-read-if1 : tie.Need-shared-slice-read-if1
 shared-slice-read-if1 c = search needs

@@ -7,10 +7,10 @@ use Rattle.plane.specs.Lists.{any, anyNext}
 use Rattle.plane.proofs.Tests.{or-first, or-rest}
 use Rattle.words.specs.Word.{stageMask}
 use Rattle.masks.specs.Mask.{stage}
-use Rattle.grounds.specs.Leaves.{falls}
-use Rattle.grounds.proofs.Stages.{masks-tried}
-use Rattle.grounds.proofs.plan.wrong_masks.Statement.{statement}
-use Rattle.grounds.proofs.plan.wrong_masks.Tie as tie
+use Rattle.plan_grounds.specs.Leaves.{falls}
+use Rattle.plan_grounds.proofs.Stages.{masks-tried}
+use Rattle.plan_grounds.proofs.wrong_masks.Statement.{statement}
+use Rattle.plan_grounds.proofs.wrong_masks.Tie as tie
 
 some-no-stage-requires : tie.Need-some-no-stage-requires
 some-no-stage-requires c κs = search needs

@@ -9,8 +9,8 @@ use Rattle.words.specs.Word.{stageMask}
 use Rattle.masks.specs.Mask.{stage}
 use Rattle.plane.specs.Lists.{any}
 use Rattle.plane.proofs.Member.{any-hit, any-miss, any-end}
-use Rattle.grounds.proofs.plan.some_no_stage.Statement.{statement}
-use Rattle.grounds.proofs.plan.some_no_stage.Tie as tie
+use Rattle.plan_grounds.proofs.some_no_stage.Statement.{statement}
+use Rattle.plan_grounds.proofs.some_no_stage.Tie as tie
 
 abbrev Inv-loop : tie.InvT-loop
 Inv-loop ws i₀ i = any (λ w. not (stage (stageMask w))) (drop 2 ws) ≡ any (λ w. not (stage (stageMask w))) (drop i ws)

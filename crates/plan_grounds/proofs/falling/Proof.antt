@@ -5,11 +5,11 @@ use mathlib.Core.Path.{_≡_, refl, sym, _∙_}
 use Prim.Native.Nat.{_-_, _≤_}
 use lib.ListN.{length, drop}
 use borrow.Author.Tests.{lt-ltb, le-ltb}
-use Rattle.grounds.specs.Leaves.{falls}
+use Rattle.plan_grounds.specs.Leaves.{falls}
 use Rattle.plane.specs.Lists.{anyNext}
 use Rattle.plane.proofs.Member.{next-hit, next-miss, next-end}
-use Rattle.grounds.proofs.plan.falling.Statement.{statement}
-use Rattle.grounds.proofs.plan.falling.Tie as tie
+use Rattle.plan_grounds.proofs.falling.Statement.{statement}
+use Rattle.plan_grounds.proofs.falling.Tie as tie
 
 abbrev Inv-loop : tie.InvT-loop
 Inv-loop ws i₀ i = (1 ≤ i) × (anyNext falls (drop 2 ws) ≡ anyNext falls (drop (i - 1) ws))

@@ -5,11 +5,11 @@ use mathlib.Core.Path.{_≡_}
 use Prim.Native.Nat.{_+_, _*_, _-_, _≤_}
 use lib.ListN.{length, getD, drop}
 use Rattle.words.specs.Word.{stageMask}
-use Rattle.grounds.specs.Leaves.{extentOf}
+use Rattle.plan_grounds.specs.Leaves.{extentOf}
 use Rattle.stages.proofs.Stages.{reach-small}
-use Rattle.grounds.proofs.Stages.{extent-one, extent-none}
-use Rattle.grounds.proofs.plan.extent.Statement.{statement}
-use Rattle.grounds.proofs.plan.extent.Tie as tie
+use Rattle.plan_grounds.proofs.Stages.{extent-one, extent-none}
+use Rattle.plan_grounds.proofs.extent.Statement.{statement}
+use Rattle.plan_grounds.proofs.extent.Tie as tie
 
 abbrev Inv-loop : tie.InvT-loop
 Inv-loop ws down sum₀ i₀ sum i = (2 ≤ i) × (sum ≤ 2 * i) × (sum + extentOf down (drop i ws) ≡ extentOf down (drop 2 ws))

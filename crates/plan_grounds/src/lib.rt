@@ -1,5 +1,6 @@
-// Grounds 1 to 3 and 5 to 8 of a plan list: head, place, then the stages.
-use super::lists;
+// What refuses a plan list, head, place and then the stages: the first of grounds 1 to 3 and 5 to 8 that holds. No point is built: ground 8 is tried by
+// the stages' extents.
+use grounds::lists;
 use words::Answer;
 use words::Ground;
 ghost use mathlib.Core.Path.{_≡_};
@@ -12,10 +13,10 @@ ghost use Rattle.words.specs.Word.{stageMask};
 ghost use Rattle.masks.specs.Mask.{stage};
 ghost use Rattle.shapes.specs.Shape.{outOfRange};
 ghost use Rattle.shapes.specs.Plan.{planTests, wrongPlanKinds, wrongPlanBits, wrongCount, wrongPlace, wrongMasks, planMasks, planPoints};
-ghost use Rattle.grounds.specs.Leaves.{falls, extentOf};
+ghost use Rattle.plan_grounds.specs.Leaves.{falls, extentOf};
 
 // Ground 2: whether the first word is no head, the second no place, or some other no stage.
-pub(crate) fn wrong_kinds(ws: &[u32]) -> bool
+fn wrong_kinds(ws: &[u32]) -> bool
     requires { ⌜ 2 ≤ length (now ws) ⌝ }
     ensures { λ r. ⌜ r ≡ wrongPlanKinds (now (ws .entry)) ⌝ }
 {
@@ -29,7 +30,7 @@ pub(crate) fn wrong_kinds(ws: &[u32]) -> bool
 }
 
 // Ground 3: a head names 8 bits, a place 16, a stage 9.
-pub(crate) fn extra_bits(ws: &[u32]) -> bool
+fn extra_bits(ws: &[u32]) -> bool
     requires { ⌜ 2 ≤ length (now ws) ⌝ }
     ensures { λ r. ⌜ r ≡ wrongPlanBits (now (ws .entry)) ⌝ }
 {
@@ -43,7 +44,7 @@ pub(crate) fn extra_bits(ws: &[u32]) -> bool
 }
 
 // Ground 5: whether the head's count isn't the number of words less 2.
-pub(crate) fn wrong_count(ws: &[u32]) -> bool
+fn wrong_count(ws: &[u32]) -> bool
     requires { ⌜ 2 ≤ length (now ws) ⌝ }
     ensures { λ r. ⌜ r ≡ wrongCount (now (ws .entry)) ⌝ }
 {
@@ -52,7 +53,7 @@ pub(crate) fn wrong_count(ws: &[u32]) -> bool
 }
 
 // Ground 6: whether a place field is above 30.
-pub(crate) fn wrong_place(ws: &[u32]) -> bool
+fn wrong_place(ws: &[u32]) -> bool
     requires { ⌜ 2 ≤ length (now ws) ⌝ }
     ensures { λ r. ⌜ r ≡ wrongPlace (now (ws .entry)) ⌝ }
 {
@@ -91,7 +92,7 @@ fn falling(ws: &[u32]) -> bool
 }
 
 // Ground 7: whether a mask is no stage, or is below the mask before.
-pub(crate) fn wrong_masks(ws: &[u32]) -> bool
+fn wrong_masks(ws: &[u32]) -> bool
     ensures { λ r. ⌜ r ≡ wrongMasks (planMasks (now (ws .entry))) ⌝ }
 {
     if some_no_stage(ws) {
@@ -115,7 +116,7 @@ fn extent(ws: &[u32], down: bool) -> u32
 }
 
 // Ground 8, from the extents of the sum and the place; the masks are stages, so each reaches down to 0.
-pub(crate) fn out_of_range(ws: &[u32]) -> bool
+fn out_of_range(ws: &[u32]) -> bool
     requires { ⌜ (2 ≤ length (now ws)) × (length (now ws) ≤ 32) × (wrongMasks (planMasks (now ws)) ≡ false) ⌝ }
     ensures { λ r. ⌜ r ≡ outOfRange (planPoints (now (ws .entry))) ⌝ }
 {
@@ -133,8 +134,8 @@ pub(crate) fn out_of_range(ws: &[u32]) -> bool
     ws[1] / 256 % 256 + h > 30
 }
 
-// The first ground that holds.
-pub(crate) fn refused(ws: &[u32]) -> Answer
+// What refuses a plan list: the first of grounds 1 to 3 and 5 to 8 that holds, each tried over the whole list; Done(0) where none does.
+pub fn plan_refusal(ws: &[u32]) -> Answer
     ensures { λ r. ⌜ stated r ≡ refusal (firstOf (planTests (now (ws .entry)))) ⌝ }
 {
     if lists::wrong_length(ws, 2, 32) {

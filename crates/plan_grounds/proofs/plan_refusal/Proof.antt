@@ -6,10 +6,10 @@ use Prim.Native.Nat.{ℕ, _≤_}
 use lib.ListN.{length, drop}
 use Rattle.words.specs.Ground.{Test, firstOf, refusal}
 use Rattle.words.proofs.Refusals.{first-holds, first-fails}
 use Rattle.grounds.proofs.Lengths.{within}
 use Rattle.shapes.specs.Plan.{planTests}
-use Rattle.grounds.proofs.plan.refused.Statement.{statement}
-use Rattle.grounds.proofs.plan.refused.Tie as tie
+use Rattle.plan_grounds.proofs.plan_refusal.Statement.{statement}
+use Rattle.plan_grounds.proofs.plan_refusal.Tie as tie
 
 abbrev ws : tie.Start → List ℕ
 ws st = st .args .ws .now
@@ -144,8 +144,8 @@ returns-8 : tie.Need-returns-8
 unfolding planTests
 returns-8 c = sym (ap refusal (passed-7 c ∙ first-holds (tests (from-7 c)) 7 refl))
 
-pub refused-spec : {M : Type 1} → statement M
-refused-spec =
+pub plan-refusal-spec : {M : Type 1} → statement M
+plan-refusal-spec =
     tie.close
     (tie.spec
     wrong-length-requires

@@ -1,8 +1,8 @@
 -- The head, the place, then the stages.
 use borrow.Author.Needs.{needs}
 use borrow.Author.Tests.{le-leb, lt-leb}
-use Rattle.grounds.proofs.plan.extra_bits.Statement.{statement}
-use Rattle.grounds.proofs.plan.extra_bits.Tie as tie
+use Rattle.plan_grounds.proofs.extra_bits.Statement.{statement}
+use Rattle.plan_grounds.proofs.extra_bits.Tie as tie
 
 shared-slice-read-if1 : tie.Need-shared-slice-read-if1
 shared-slice-read-if1 c = search needs
