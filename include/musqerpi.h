@@ -57,8 +57,8 @@ enum musq_ground {
  * Grounds: 1, 2, 3, 4, 9, 10. Ground 10 says that no list of subsets of the
  * 3x3 square, of any length and with any offset, sums to the shape.
  * Writes the plan list to out and answers its length, 2 to 32; a refusal
- * changes nothing. The search has no limit: most shapes take far less than a
- * millisecond, but some with extents above 8 or so take hours and more. */
+ * changes nothing. The search has no limit of its own: most shapes take less
+ * than a millisecond, but there are shapes for which it was not seen to end. */
 int64_t musq_plan(const uint32_t *shape, size_t n, uint32_t *out, size_t out_n);
 
 /* Turns a plan back into a shape: its points are the plan's offset added to
