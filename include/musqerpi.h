@@ -26,6 +26,7 @@
 #ifndef MUSQERPI_H
 #define MUSQERPI_H
 
+#include <stdbool.h>
 #include <stddef.h>
 #include <stdint.h>
 
@@ -89,6 +90,25 @@ int64_t musq_join(const uint32_t *a, size_t an, const uint32_t *b, size_t bn, ui
  * length, 2 to 17; a refusal changes nothing. */
 int64_t musq_sum(const uint32_t *a, size_t an, const uint32_t *b, size_t bn, uint32_t *out,
                  size_t out_n);
+
+/* Frames: W columns and H rows, each 1 to 240, one byte a cell, row 0 first, 0
+ * free and 1 occupied. A grid is the first (W + 15) x (H + 15) bytes of a work
+ * image, row by row, x and y from 0. The calls below answer the number that
+ * they say, or -N for refusal N; a refusal changes nothing, bytes past the grid
+ * are never changed, and what is lent for writing must not overlap the rest. */
+
+/* The load: answers the number of occupied cells. Grounds: 11, 12, 13. */
+int64_t musq_load(size_t w, size_t h, const uint8_t *frame, size_t frame_n);
+
+/* Puts a frame into the grid of an image, with the rest of the grid 0, and
+ * answers 0. Grounds: 11, 12, 13, 14. */
+int64_t musq_put(size_t w, size_t h, const uint8_t *frame, size_t frame_n, uint8_t *image, size_t image_n);
+
+/* Takes the grid of one image through the single stage of a stage word, by
+ * dilation or by erosion, into the grid of another, cut to the grid; cells
+ * outside it are free. Answers 0. Grounds: 2, 3, 7, 11, 13 (over the grid read,
+ * as far as its image goes), 14 (over both images). */
+int64_t musq_stage(uint32_t word, bool erode, size_t w, size_t h, const uint8_t *from, size_t from_n, uint8_t *to, size_t to_n);
 
 #ifdef __cplusplus
 }

@@ -19,6 +19,34 @@ static void expect(const char *call, int64_t n, int64_t answer, const uint32_t *
     }
 }
 
+/* The answer n is the one expected, and the bytes at least are those given. */
+static void expect_bytes(const char *call, int64_t n, int64_t answer, const uint8_t *bytes, const uint8_t *expected, size_t count)
+{
+    if (n != answer || memcmp(bytes, expected, count) != 0) {
+        printf("%s: wrong\n", call);
+        wrong++;
+    }
+}
+
+/* Frames: one row of three columns, 1 0 1, in a grid of 18 columns and 16 rows. */
+static void frames(void)
+{
+    static const uint8_t frame[] = {1, 0, 1};
+    static const uint8_t put[] = {1, 0, 1, 0, 0};
+    static const uint8_t dilated[] = {1, 1, 1, 1, 0};
+    static const uint8_t eroded[] = {1, 1, 1, 0, 0};
+    static uint8_t first[288], second[288];
+
+    memset(first, 0xa5, sizeof first);
+    expect_bytes("musq_load", musq_load(3, 1, frame, 3), 2, frame, put, 3);
+    expect_bytes("musq_load, 241", musq_load(241, 1, frame, 3), -MUSQ_FRAME_SIZE, frame, put, 3);
+    expect_bytes("musq_put", musq_put(3, 1, frame, 3, first, 288), 0, first, put, 5);
+    expect_bytes("musq_put, short", musq_put(3, 1, frame, 3, first, 287), -MUSQ_IMAGE_LENGTH, first, put, 5);
+    expect_bytes("musq_stage", musq_stage(0x50000003, false, 3, 1, first, 288, second, 288), 0, second, dilated, 5);
+    expect_bytes("musq_stage, one cell", musq_stage(0x50000001, false, 3, 1, first, 288, second, 288), -MUSQ_STAGE_MASK, second, dilated, 5);
+    expect_bytes("musq_stage, erode", musq_stage(0x50000003, true, 3, 1, second, 288, first, 288), 0, first, eroded, 5);
+}
+
 int main(void)
 {
     static const uint32_t row[] = {0x10000000, 0x2000000f};
@@ -44,5 +72,6 @@ int main(void)
     memset(out, 0xa5, sizeof out);
     expect("musq_sum, a plan", musq_sum(row, 2, plan, 4, out, 17), -MUSQ_WORD_KIND, out, row);
     expect("musq_sum", musq_sum(row, 2, cell, 2, out, 17), 2, out, row);
+    frames();
     return wrong;
 }

@@ -4,6 +4,7 @@
 pub mod cases;
 pub mod check;
 pub mod expect;
+pub mod frames;
 pub mod library;
 pub mod lists;
 pub mod random;

@@ -3,6 +3,8 @@
 ghost use mathlib.Core.Path.{_≡_};
 ghost use Rattle.shapes.specs.Calls.{Moved, Joined, Summed, TurnedBack};
 ghost use Rattle.planning.specs.Planning.{Planned};
+ghost use Rattle.grids.specs.Frame.{LoadCounted};
+ghost use Rattle.grids.specs.Grid.{FramePut, Staged};
 ghost use Rattle.exports.specs.Numbers.{signedOf, Stands};
 use words::Answer;
 
@@ -54,4 +56,35 @@ pub extern "C" fn musq_sum(a: &[u32], b: &[u32], out: &mut [u32]) -> i64
     ensures { λ r. ⌜ Stands r (λ s. Summed (now (a .entry)) (now (b .entry)) (now (out .entry)) s (now (out .exit))) ⌝ }
 {
     signed(shaping::sum_shapes(a, b, out))
+}
+
+// The load of a frame.
+#[no_mangle]
+pub extern "C" fn musq_load(w: usize, h: usize, frame: &[u8]) -> i64
+    ensures { λ r. ⌜ Stands r (λ a. LoadCounted w h (now (frame .entry)) a) ⌝ }
+{
+    signed(frames::load(w, h, frame))
+}
+
+// Putting a frame into a grid.
+#[no_mangle]
+pub extern "C" fn musq_put(w: usize, h: usize, frame: &[u8], image: &mut [u8]) -> i64
+    ensures { λ r. ⌜ Stands r (λ a. FramePut w h (now (frame .entry)) (now (image .entry)) a (now (image .exit))) ⌝ }
+{
+    signed(framing::put(w, h, frame, image))
+}
+
+// A single stage.
+#[no_mangle]
+pub extern "C" fn musq_stage(
+    word: u32,
+    erode: bool,
+    w: usize,
+    h: usize,
+    from: &[u8],
+    to: &mut [u8],
+) -> i64
+    ensures { λ r. ⌜ Stands r (λ a. Staged erode word w h (now (from .entry)) (now (to .entry)) a (now (to .exit))) ⌝ }
+{
+    signed(framing::stage(word, erode, w, h, from, to))
 }

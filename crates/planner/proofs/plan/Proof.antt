@@ -6,7 +6,8 @@ use mathlib.Core.Path.{refl}
 use Rattle.rows.proofs.Known.{field16}
 use Rattle.shapes.specs.Shape.{shapePoints, shapeTests}
 use Rattle.shaping.proofs.Reading.{shape-read}
-use Rattle.shaping.proofs.Tested.{refused-first, no-refusal}
+use Rattle.words.proofs.Tested.{no-refusal}
+use Rattle.shaping.proofs.Tested.{refused-first}
 use Rattle.planner.proofs.Outputs.{too-short, long-enough}
 use Rattle.planner.proofs.Points.{fields, few, unplannable, written}
 use Rattle.planner.proofs.plan.Statement.{statement}

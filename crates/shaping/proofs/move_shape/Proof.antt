@@ -5,7 +5,8 @@ use mathlib.Core.List.{map}
 use mathlib.Core.Path.{refl, subst}
 use borrow.Author.Needs.{needs}
 use Rattle.shaping.proofs.move_shape.Statement.{statement}
-use Rattle.shaping.proofs.Tested.{refused-first, no-refusal}
+use Rattle.words.proofs.Tested.{no-refusal}
+use Rattle.shaping.proofs.Tested.{refused-first}
 use Rattle.shaping.proofs.Reading.{shape-read}
 use Rattle.shaping.proofs.Calls.{made-returned, map-points, shape-clear, list-made}
 use Rattle.words.proofs.Refusals.{answered-rest}

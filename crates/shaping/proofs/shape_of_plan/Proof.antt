@@ -3,7 +3,8 @@ use mathlib.Core.Logic.{inl}
 use mathlib.Core.Path.{refl}
 use borrow.Author.Needs.{needs}
 use Rattle.shaping.proofs.shape_of_plan.Statement.{statement}
-use Rattle.shaping.proofs.Tested.{refused-first, no-refusal}
+use Rattle.words.proofs.Tested.{no-refusal}
+use Rattle.shaping.proofs.Tested.{refused-first}
 use Rattle.words.proofs.Refusals.{answered-rest}
 use Rattle.shaping.proofs.Calls.{plan-clear, list-stands}
 use Rattle.shapes.specs.Plan.{planTests, planPoints}

@@ -1,0 +1,4 @@
+pub mod Sides
+pub mod Loops
+pub mod Tested
+pub mod Accepted

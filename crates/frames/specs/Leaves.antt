@@ -1,0 +1,20 @@
+-- What the loops over cells compute; proofs/ has that these are ground 13 and the load.
+use mathlib.Core.List.{List, [], _∷_}
+use mathlib.Core.Bool.{cond}
+use Prim.Native.Nat.{ℕ, _+_}
+use lib.Dec.{eqb}
+use Rattle.grids.specs.Image.{fold}
+use Rattle.grids.specs.Frame.{free, full, greater}
+
+-- the greatest of some cells; free where there is none
+abbrev pub greatestOf : List ℕ → ℕ
+greatestOf f = fold greater free f
+
+-- what a cell adds to the load
+abbrev pub countOf : ℕ → ℕ
+countOf v = cond (eqb v full) 1 0
+
+-- the counts of some cells together
+abbrev pub countsOf : List ℕ → ℕ
+countsOf [] = 0
+countsOf (v ∷ vs) = countOf v + countsOf vs

@@ -1,0 +1,57 @@
+// Ground 13 and the load: loops over cells that always run to the end, so that they are done many cells at a time.
+ghost use mathlib.Core.Path.{_≡_};
+ghost use Prim.Native.Nat.{_≤_, max};
+ghost use lib.ListN.{length};
+ghost use Rattle.grids.specs.Frame.{badCell, load};
+ghost use Rattle.frames.specs.Leaves.{greatestOf, countOf};
+
+// The greater of two cells.
+fn greater(a: u8, b: u8) -> u8
+    ensures { λ r. ⌜ r ≡ max a b ⌝ }
+{
+    if a < b { b } else { a }
+}
+
+// The greatest of some cells.
+fn greatest(cells: &[u8]) -> u8
+    ensures { λ r. ⌜ r ≡ greatestOf (now (cells .entry)) ⌝ }
+{
+    let mut v: u8 = 0;
+    let mut i: usize = 0;
+    while i < cells.len() {
+        v = greater(v, cells[i]);
+        i += 1;
+    }
+    v
+}
+
+// Ground 13: whether a cell is above 1.
+pub(crate) fn bad_cell(cells: &[u8]) -> bool
+    ensures { λ r. ⌜ r ≡ badCell (now (cells .entry)) ⌝ }
+{
+    greatest(cells) > 1
+}
+
+// What a cell adds to the load.
+fn count(cell: u8) -> u32
+    ensures { λ r. ⌜ (r ≡ countOf cell) × (r ≤ 1) ⌝ }
+{
+    if cell == 1 {
+        return 1;
+    }
+    0
+}
+
+// The number of occupied cells.
+pub(crate) fn occupied(cells: &[u8]) -> u32
+    requires { ⌜ length (now cells) ≤ 57600 ⌝ }
+    ensures { λ r. ⌜ r ≡ load (now (cells .entry)) ⌝ }
+{
+    let mut n: u32 = 0;
+    let mut k: usize = 0;
+    while k < cells.len() {
+        n += count(cells[k]);
+        k += 1;
+    }
+    n
+}

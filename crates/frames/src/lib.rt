@@ -1,0 +1,61 @@
+// What refuses a frame, a work image or a single stage: the first of grounds 2, 3, 7 and 11 to 14 of document 01 that holds; Done(0) where none does.
+// And the load of a frame. `sizes` has the tests of sides and lengths, `cells` the loops over cells, `stage` the tests of a single stage.
+mod cells;
+mod sizes;
+mod stage;
+
+use words::Answer;
+use words::Ground;
+ghost use mathlib.Core.Path.{_≡_};
+ghost use Rattle.words.specs.Ground.{stated, refusal, firstOf};
+ghost use Rattle.grids.specs.Frame.{frameTests, LoadCounted};
+ghost use Rattle.grids.specs.Grid.{putTests, stageTests};
+
+// What refuses a frame: the first of grounds 11, 12 and 13 that holds.
+pub fn frame_refusal(w: usize, h: usize, frame: &[u8]) -> Answer
+    ensures { λ r. ⌜ stated r ≡ refusal (firstOf (frameTests w h (now (frame .entry)))) ⌝ }
+{
+    if sizes::bad_size(w, h) {
+        return Answer::Refused(Ground::FrameSize);
+    }
+    if sizes::wrong_length(w, h, frame) {
+        return Answer::Refused(Ground::FrameLength);
+    }
+    if cells::bad_cell(frame) {
+        return Answer::Refused(Ground::CellValue);
+    }
+    Answer::Done(0)
+}
+
+// What refuses a frame that is put into a grid of the image: the first of grounds 11 to 14 that holds.
+pub fn put_refusal(w: usize, h: usize, frame: &[u8], image: &[u8]) -> Answer
+    ensures { λ r. ⌜ stated r ≡ refusal (firstOf (putTests w h (now (frame .entry)) (now (image .entry)))) ⌝ }
+{
+    let tested = frame_refusal(w, h, frame);
+    if let Answer::Refused(ground) = tested {
+        return Answer::Refused(ground);
+    }
+    if sizes::short_image(w, h, image) {
+        return Answer::Refused(Ground::ImageLength);
+    }
+    Answer::Done(0)
+}
+
+// What refuses the single stage of a word, from the grid of one image into another: the first of grounds 2, 3, 7, 11, 13 and 14 that holds.
+pub fn stage_refusal(word: u32, w: usize, h: usize, from: &[u8], to: &[u8]) -> Answer
+    ensures { λ r. ⌜ stated r ≡ refusal (firstOf (stageTests word w h (now (from .entry)) (now (to .entry)))) ⌝ }
+{
+    stage::refused(word, w, h, from, to)
+}
+
+// The load: the number of occupied cells in a frame.
+pub fn load(w: usize, h: usize, frame: &[u8]) -> Answer
+    ensures { λ r. ⌜ LoadCounted w h (now (frame .entry)) r ⌝ }
+{
+    let tested = frame_refusal(w, h, frame);
+    if let Answer::Refused(ground) = tested {
+        return Answer::Refused(ground);
+    }
+    let n = cells::occupied(frame);
+    Answer::Done(n)
+}

@@ -1,0 +1,65 @@
+// The grounds of a single stage: its word, the sides, the grid read as far as its image goes, and both images.
+use super::cells;
+use super::sizes;
+use words::Answer;
+use words::Ground;
+ghost use mathlib.Core.Path.{_≡_};
+ghost use mathlib.Core.Bool.{false, _||_};
+ghost use Prim.Native.Nat.{min};
+ghost use lib.ListN.{take};
+ghost use Rattle.words.specs.Ground.{stated, refusal, firstOf};
+ghost use Rattle.grids.specs.Frame.{badSize, badCell, gridSize, shortImage};
+ghost use Rattle.grids.specs.Grid.{stageTests};
+
+// The lesser of two lengths.
+fn lesser(a: usize, b: usize) -> usize
+    ensures { λ r. ⌜ r ≡ min a b ⌝ }
+{
+    if a < b { a } else { b }
+}
+
+// Ground 13 of a grid: whether a byte of it is above 1, as far as its image goes.
+fn bad_grid(w: usize, h: usize, image: &[u8]) -> bool
+    requires { ⌜ badSize w h ≡ false ⌝ }
+    ensures { λ r. ⌜ r ≡ badCell (take (gridSize w h) (now (image .entry))) ⌝ }
+{
+    let size = sizes::grid_size(w, h);
+    let n = lesser(size, image.len());
+    cells::bad_cell(&image[0..n])
+}
+
+// Ground 14 of two work images: whether either is shorter than the grid.
+fn short_images(w: usize, h: usize, from: &[u8], to: &[u8]) -> bool
+    requires { ⌜ badSize w h ≡ false ⌝ }
+    ensures { λ r. ⌜ r ≡ (shortImage w h (now (from .entry)) || shortImage w h (now (to .entry))) ⌝ }
+{
+    if sizes::short_image(w, h, from) {
+        return true;
+    }
+    sizes::short_image(w, h, to)
+}
+
+// The first ground that holds.
+pub(crate) fn refused(word: u32, w: usize, h: usize, from: &[u8], to: &[u8]) -> Answer
+    ensures { λ r. ⌜ stated r ≡ refusal (firstOf (stageTests word w h (now (from .entry)) (now (to .entry)))) ⌝ }
+{
+    if word / 268435456 != 5 {
+        return Answer::Refused(Ground::WordKind);
+    }
+    if word % 268435456 >= 512 {
+        return Answer::Refused(Ground::ExtraBit);
+    }
+    if !stages::is_stage(word % 512) {
+        return Answer::Refused(Ground::StageMask);
+    }
+    if sizes::bad_size(w, h) {
+        return Answer::Refused(Ground::FrameSize);
+    }
+    if bad_grid(w, h, from) {
+        return Answer::Refused(Ground::CellValue);
+    }
+    if short_images(w, h, from, to) {
+        return Answer::Refused(Ground::ImageLength);
+    }
+    Answer::Done(0)
+}

@@ -1,0 +1,74 @@
+-- A refusal is the answer; else what no ground refuses fits, and is written.
+use borrow.Author.Needs.{needs}
+use native.Mathlib.Omega.{arith}
+use mathlib.Core.Path.{refl}
+use Rattle.words.proofs.Tested.{no-refusal}
+use Rattle.grids.specs.Grid.{putTests}
+use Rattle.frames.proofs.Sides.{sides}
+use Rattle.frames.proofs.Tested.{refused-call}
+use Rattle.framing.proofs.Fitting.{put-sides, put-done}
+use Rattle.framing.proofs.put.Statement.{statement}
+use Rattle.framing.proofs.put.Tie as tie
+
+put-refusal-requires : tie.Need-put-refusal-requires
+put-refusal-requires c κs = search needs
+
+enum-known-tested : tie.Need-enum-known-tested
+enum-known-tested c = search needs
+
+same-length : tie.Need-same-length
+same-length c = search needs
+
+returns : tie.Need-returns
+returns c =
+    let t = c .before .before .before in
+    let a = t .before .before .before .before .args in
+    refused-call (putTests (a .w) (a .h) (a .frame .now) (a .image .now)) (t .put-refusal .result) _ (t .put-refusal .ensures) (c .before .tested .given .1) refl
+
+enum-told : tie.Need-enum-told
+enum-told c = search needs
+
+add-put : tie.Need-add-put
+add-put c =
+    let k = c .before .before in
+    let t = k .before .put-refusal in
+    let a = k .before .before .before .before .before .args in
+    let b = sides (a .w) (a .h) (put-sides (a .w) (a .h) (a .frame .now) (a .image .now) (no-refusal (t .result) _ (k .match .keys2) (t .ensures))) .0 in
+    record { fits = omega arith }
+
+add-put-2 : tie.Need-add-put-2
+add-put-2 c =
+    let k = c .before .before in
+    let t = k .before .put-refusal in
+    let a = k .before .before .before .before .before .args in
+    let b = sides (a .w) (a .h) (put-sides (a .w) (a .h) (a .frame .now) (a .image .now) (no-refusal (t .result) _ (k .match .keys2) (t .ensures))) .1 in
+    record { fits = omega arith }
+
+put-requires : tie.Need-put-requires
+put-requires c κs = search needs
+
+same-length-2 : tie.Need-same-length-2
+same-length-2 c = search needs
+
+returns-2 : tie.Need-returns-2
+returns-2 c =
+    let k = c .before .before .before .before .before in
+    let t = k .before .put-refusal in
+    let a = k .before .before .before .before .before .args in
+    let p = c .before .before .put in
+    put-done (a .w) (a .h) (a .frame .now) (a .image .now) (no-refusal (t .result) _ (k .match .keys2) (t .ensures)) (p .result) _ _ refl (p .ensures)
+
+pub put-spec : {M : Type 1} → statement M
+put-spec =
+    tie.close
+    (tie.spec
+    put-refusal-requires
+    enum-known-tested
+    same-length
+    returns
+    enum-told
+    add-put
+    add-put-2
+    put-requires
+    same-length-2
+    returns-2)
