@@ -19,7 +19,8 @@ use Rattle.shapes.proofs.Accepted.{Shaped}
 use Rattle.shapes.proofs.Written.{plan-clear, masks-are, offset-is, plan-stands}
 use Rattle.planning.specs.Planning.{Shape, PlanWritten, Unplannable}
 use Rattle.planning.proofs.Decided.{chain-of, accepted, written-words}
-use Rattle.cleaning.specs.Cleaning.{part, workTests, operationTests, stagesRun, Cleaned}
+use Rattle.grids.specs.Grid.{workTests}
+use Rattle.cleaning.specs.Cleaning.{part, operationTests, stagesRun, Cleaned}
 use Rattle.cleaning.specs.Operation.{inTurn}
 use Rattle.cleaning.proofs.Turn.{same-direct}
 use Rattle.claim.specs.Demand3.{Demand3, Agrees, Served, Decided}

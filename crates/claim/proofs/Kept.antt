@@ -21,8 +21,8 @@ use Rattle.shapes.specs.Shape.{shapeTests}
 use Rattle.planning.specs.Planning.{Shape, planningTests, Planned, Unplannable, PlanWritten}
 use Rattle.planning.proofs.Decided.{can-plan, can-refuse}
 use Rattle.grids.specs.Frame.{frameTests, load, free}
-use Rattle.grids.specs.Grid.{putTests, stageTests, put, once, written, GridWritten}
-use Rattle.cleaning.specs.Cleaning.{workTests, operationTests, Ran, Cleaned}
+use Rattle.grids.specs.Grid.{putTests, stageTests, put, once, written, GridWritten, workTests}
+use Rattle.cleaning.specs.Cleaning.{operationTests, Ran, Cleaned}
 use Rattle.cleaning.proofs.Kept.{can-clean}
 use Rattle.claim.specs.Kept.{Kept}
 

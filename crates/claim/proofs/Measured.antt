@@ -32,9 +32,9 @@ use Rattle.planning.proofs.Decided.{can-plan, can-refuse, planned, unplanned}
 use Rattle.planning.proofs.Once.{reads-once}
 use Rattle.planning.proofs.Printed.{printed-plan}
 use Rattle.grids.specs.Frame.{badSize, badCell, gridSize, shortImage}
-use Rattle.grids.specs.Grid.{once}
+use Rattle.grids.specs.Grid.{once, workTests}
 use Rattle.grids.specs.Image.{cells, valueAt}
-use Rattle.cleaning.specs.Cleaning.{workTests}
+use Rattle.cleaning.specs.Cleaning.{}
 use Rattle.cleaning.specs.Operation.{inTurn, lastGrid, Direct}
 use Rattle.cleaning.proofs.Kept.{can-clean}
 use Rattle.cleaning.proofs.Plans.{binary}

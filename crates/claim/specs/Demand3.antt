@@ -13,7 +13,8 @@ use Rattle.masks.specs.Chain.{Chain, Picked, sumOf}
 use Rattle.shapes.specs.Plan.{planWords}
 use Rattle.planning.specs.Planning.{Shape, member, permitted, planningTests, Planned}
 use Rattle.cleaning.specs.Operation.{Direct, inTurn}
-use Rattle.cleaning.specs.Cleaning.{workTests, stagesRun, part, Cleaned}
+use Rattle.grids.specs.Grid.{workTests}
+use Rattle.cleaning.specs.Cleaning.{stagesRun, part, Cleaned}
 use Rattle.cleaning.specs.declared.Operation.{Operation}
 
 -- an operation that was given the plan of the stages ms with the offset d: it doesn't refuse, it answers the number of stages run, and the part handed

@@ -11,9 +11,9 @@ use Rattle.words.specs.Ground.{firstOf, stated, result, refusal}
 use Rattle.words.specs.declared.Answer.{Answer}
 use Rattle.masks.specs.Mask.{maskCells}
 use Rattle.shapes.specs.Plan.{planTests}
-use Rattle.grids.specs.Grid.{once}
+use Rattle.grids.specs.Grid.{once, workTests}
 use Rattle.grids.specs.Image.{cells, valueAt}
-use Rattle.cleaning.specs.Cleaning.{part, stagesRun, operationTests, workTests, Cleaned}
+use Rattle.cleaning.specs.Cleaning.{part, stagesRun, operationTests, Cleaned}
 use Rattle.cleaning.specs.Operation.{inTurn, lastGrid}
 
 -- ---- the part: the second image if the number is even, the first if odd
@@ -90,12 +90,6 @@ eroded-left = refl
 opened-still : inTurn Opening 3 1 (0 ∷ 1 ∷ 0 ∷ []) (pos 1, pos 0) [] ≡ 0 ∷ 1 ∷ 0 ∷ []
 unfolding inTurn lastGrid once cells valueAt _+ᵖ_ negᵖ
 opened-still = refl
-
--- ---- the grounds of a frame and two images in order
-
-work-order : (firstOf (workTests 0 1 (2 ∷ []) [] []) ≡ 11) × (firstOf (workTests 2 1 (2 ∷ []) [] []) ≡ 12) × (firstOf (workTests 1 1 (2 ∷ []) [] []) ≡ 13)
-unfolding workTests
-work-order = (refl, refl, refl)
 
 -- ---- what an operation leaves: the part, and every byte past the grids
 

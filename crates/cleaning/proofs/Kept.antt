@@ -1,50 +1,30 @@
 -- The promise of the operations can be kept on every accepted plan, frame and pair of images: the result is written over the start of the image that the
 -- parity of the stages run names, and nothing else is touched.
-use mathlib.Core.Path.{_≡_, refl, sym, _∙_, ap, subst}
-use mathlib.Core.Bool.{Bool, not, cond, _||_}
-use mathlib.Core.List.{List, [], _++_}
+use mathlib.Core.Path.{_≡_, refl, _∙_, ap}
+use mathlib.Core.Bool.{Bool, false, not, cond}
+use mathlib.Core.List.{List, _++_}
 use mathlib.Core.Logic.{_⊎_, inl, inr}
 use Prim.Native.Nat.{ℕ, _+_, _-_, _*_, _%_, _≤_}
-use native.Mathlib.Omega.{arith}
-use native.Mathlib.Nat.{mul-comm, add-mul, mul-add}
-use lib.Dec.{T, ltb, eqb, nltb→le}
-use lib.ListN.{length, take, drop, length-append, length-drop}
-use lib.Seq.{take-at, drop-append-add, drop-drop}
+use native.Mathlib.Nat.{mul-comm}
+use lib.Dec.{T, eqb, nltb→le}
+use lib.ListN.{length, drop}
 use Rattle.words.specs.declared.Answer.{Answer}
 use Rattle.words.specs.declared.Answer.the-variants.{Done}
 use Rattle.cleaning.specs.declared.Operation.{Operation}
 use Rattle.plane.specs.Point.{Point}
-use Rattle.plane.proofs.Tests.{not-or, not-ltb, T-dec, T-true, T-false}
+use Rattle.plane.proofs.Tests.{not-or, T-dec, T-true, T-false}
 use Rattle.words.specs.Ground.{firstOf}
 use Rattle.words.proofs.Refusals.{Clear, clear, clear-last}
 use Rattle.shapes.specs.Plan.{planOffset, planMasks, planTests}
 use Rattle.grids.specs.Frame.{gridSize, badSize, shortImage}
-use Rattle.grids.specs.Grid.{grid, laid}
+use Rattle.grids.specs.Grid.{grid, laid, workTests}
 use Rattle.grids.proofs.Pictures.{length-cells}
-use Rattle.cleaning.specs.Cleaning.{stagesRun, part, workTests, operationTests, Cleaned}
+use Rattle.cleaning.specs.Cleaning.{stagesRun, part, operationTests, Cleaned}
 use Rattle.cleaning.specs.Operation.{inTurn, outside, asRead, lastGrid, readAt}
-
--- a list written over the start of an image
-abbrev onto : List ℕ → List ℕ → List ℕ
-onto r i = r ++ drop (length r) i
-
--- the list reaches no farther than the first n bytes of the image
-module _ (r i : List ℕ) (n : ℕ) (h : length r ≤ n) (k : n ≤ length i) where
-  over-length : length (onto r i) ≡ length i
-  over-length = length-append r (drop (length r) i) ∙ ap (λ m. length r + m) (length-drop (length r) i) ∙ omega arith
-
-  over-past : drop n (onto r i) ≡ drop n i
-  over-past =
-      let past = n - length r in
-      let e : n ≡ length r + past = omega arith in
-      ap (λ m. drop m (onto r i)) e ∙ drop-append-add r (drop (length r) i) past ∙ drop-drop past (length r) i ∙ ap (λ m. drop m i) (sym e)
-
--- a frame has no more cells than its grid
-frame-in-grid : (W H : ℕ) → W * H ≤ gridSize W H
-frame-in-grid W H = let e = add-mul W 15 (H + 15) in let f = mul-add W H 15 in omega (arith, e, f)
+use Rattle.cleaning.proofs.Starts.{over-length, over-past, frame-in-grid, hand, hand-start}
 
 -- the single stages give as many cells as the frame has
-turn-length : (op : Operation) (W H : ℕ) (f : List ℕ) (d : Point) (ms : List ℕ) → length (inTurn op W H f d ms) ≡ W * H
+pub turn-length : (op : Operation) (W H : ℕ) (f : List ℕ) (d : Point) (ms : List ℕ) → length (inTurn op W H f d ms) ≡ W * H
 unfolding inTurn
 turn-length op W H f d ms = length-cells W H (λ p. grid (outside op) W H (lastGrid op W H ms (laid W H (asRead op W H f))) (readAt op d p)) ∙ mul-comm H W
 
@@ -83,33 +63,21 @@ can-clean op plan W H f i j e = go (T-dec even)
         let u = not-or (shortImage W H i) (shortImage W H j) .0 (c .1 .1 .1 .0) in
         (nltb→le (length i) G (u .0), nltb→le (length j) G (u .1))
 
-    fits : length r ≤ G
-    fits = subst (λ m. m ≤ G) (sym size) (frame-in-grid W H)
-
-    -- what is handed back from an image, and from one that starts with the result
-    hand : List ℕ → List ℕ
-    hand k = cond (badSize W H || ltb (length k) (W * H)) [] (take (W * H) k)
-
-    start : (k : List ℕ) → G ≤ length k → hand (onto r k) ≡ r
-    start k h =
-        let l = over-length r k G fits h in
-        let g = frame-in-grid W H in
-        let m = length (onto r k) in
-        let b = not-or (badSize W H) (ltb m (W * H)) .1 (c .0, not-ltb m (W * H) (omega arith)) in
-        ap (λ t. cond t [] (take (W * H) (onto r k))) (T-false (badSize W H || ltb m (W * H)) b) ∙ take-at r (drop (length r) k) (W * H) size
+    sided : badSize W H ≡ false
+    sided = T-false (badSize W H) (c .0)
 
     -- an image as long as k, and the same past the grid
     Past : List ℕ → List ℕ → Type 0
     Past k k′ = (length k′ ≡ length k) × (drop G k′ ≡ drop G k)
 
-    past : (k : List ℕ) → G ≤ length k → Past k (onto r k)
-    past k h = (over-length r k G fits h, over-past r k G fits h)
+    past : (k : List ℕ) → G ≤ length k → Past k (r ++ drop (W * H) k)
+    past k h = (over-length r k (W * H) G size (frame-in-grid W H) h, over-past r k (W * H) G size (frame-in-grid W H) h)
 
     Promise : Type 0
     Promise = (s : Answer) × (i′ : List ℕ) × (j′ : List ℕ) × Cleaned op plan W H f i j s i′ j′
 
     -- two such images, of which the one that is handed back starts with the result, keep the promise
-    make : (i′ j′ : List ℕ) → Past i i′ → Past j j′ → hand (cond even j′ i′) ≡ r → Promise
+    make : (i′ j′ : List ℕ) → Past i i′ → Past j j′ → hand W H (cond even j′ i′) ≡ r → Promise
     make i′ j′ p q h = (
       Done n,
       i′,
@@ -121,5 +89,5 @@ can-clean op plan W H f i j e = go (T-dec even)
     )
 
     go : T even ⊎ T (not even) → Promise
-    go (inl t) = make i (onto r j) (refl, refl) (past j (room .1)) (ap (λ b. hand (cond b (onto r j) i)) (T-true even t) ∙ start j (room .1))
-    go (inr t) = make (onto r i) j (past i (room .0)) (refl, refl) (ap (λ b. hand (cond b j (onto r i))) (T-false even t) ∙ start i (room .0))
+    go (inl t) = let k = r ++ drop (W * H) j in make i k (refl, refl) (past j (room .1)) (ap (λ b. hand W H (cond b k i)) (T-true even t) ∙ hand-start W H r j sided size (room .1))
+    go (inr t) = let k = r ++ drop (W * H) i in make k j (past i (room .0)) (refl, refl) (ap (λ b. hand W H (cond b j k)) (T-false even t) ∙ hand-start W H r i sided size (room .0))

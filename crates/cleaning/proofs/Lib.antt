@@ -2,5 +2,6 @@ pub mod Within
 pub mod Turn
 pub mod Grids
 pub mod Plans
+pub mod Starts
 pub mod Kept
 pub mod Examples

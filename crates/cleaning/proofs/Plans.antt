@@ -26,7 +26,8 @@ use Rattle.shapes.specs.Shape.{tooFar, outOfRange}
 use Rattle.shapes.proofs.Written.{plan-itself}
 use Rattle.grids.specs.Frame.{badCell}
 use Rattle.grids.proofs.Stage.{bytes-binary}
-use Rattle.cleaning.specs.Cleaning.{workTests, operationTests}
+use Rattle.grids.specs.Grid.{workTests}
+use Rattle.cleaning.specs.Cleaning.{operationTests}
 use Rattle.cleaning.specs.Operation.{Direct, inTurn}
 use Rattle.cleaning.proofs.Turn.{turn-direct}
 use Rattle.cleaning.proofs.Within.{Small}

@@ -1,14 +1,15 @@
 -- Document 01, "Frames": what the four operations promise, and the part that is handed back.
 use mathlib.Core.Path.{_≡_}
 use mathlib.Core.Bool.{Bool, cond, _||_}
-use mathlib.Core.List.{List, [], _∷_, _++_}
+use mathlib.Core.List.{List, [], _++_}
 use Prim.Native.Nat.{ℕ, _*_, _%_}
 use lib.Dec.{ltb, eqb}
 use lib.ListN.{length, take, drop}
 use Rattle.words.specs.Ground.{Test, stated, result, Answered}
 use Rattle.words.specs.declared.Answer.{Answer}
 use Rattle.shapes.specs.Plan.{planTests, planMasks, planOffset}
-use Rattle.grids.specs.Frame.{badSize, shortImage, gridSize, frameTests}
+use Rattle.grids.specs.Frame.{badSize, gridSize}
+use Rattle.grids.specs.Grid.{workTests}
 use Rattle.cleaning.specs.Operation.{inTurn}
 use Rattle.cleaning.specs.declared.Operation.{Operation}
 use Rattle.cleaning.specs.declared.Operation.the-variants.{Dilation, Erosion, Opening, Closing}
@@ -31,11 +32,6 @@ unfoldable pub part : ℕ → ℕ → ℕ → List ℕ → List ℕ → List ℕ
 part n W H first second = cond (badSize W H || ltb (length (resultImage n first second)) (W * H)) [] (take (W * H) (resultImage n first second))
 
 -- ---- the four operations
-
--- a frame and two work images: grounds 11 to 14
-unfoldable pub workTests : ℕ → ℕ → List ℕ → List ℕ → List ℕ → List Test
-unfolding frameTests
-workTests W H f i j = frameTests W H f ++ (14, shortImage W H i || shortImage W H j) ∷ []
 
 -- grounds 1 to 3, 5 to 8 and 11 to 14
 abbrev pub operationTests : List ℕ → ℕ → ℕ → List ℕ → List ℕ → List ℕ → List Test

@@ -6,11 +6,16 @@ use Prim.Native.Nat.{ℕ, _*_, _≤_}
 use native.Mathlib.Omega.{arith}
 use lib.Dec.{eqb, eqb→eq}
 use lib.ListN.{length}
+use borrow.Author.Tests.{eqb-true, not-false}
 use Rattle.plane.proofs.Tests.{T-false, un-not}
 use Rattle.words.specs.Ground.{firstOf}
 use Rattle.words.proofs.Refusals.{Clear, clear}
-use Rattle.grids.specs.Frame.{frameTests, badSize}
+use Rattle.grids.specs.Frame.{frameTests, badSize, wrongLength}
 use Rattle.frames.proofs.Sides.{few-cells}
+
+-- ground 12 does not hold
+pub right-length : (w h : ℕ) (f : List ℕ) → wrongLength w h f ≡ false → length f ≡ w * h
+right-length w h f e = eqb-true (length f) (w * h) (not-false (eqb (length f) (w * h)) e)
 
 module _ (w h : ℕ) (f : List ℕ) (z : firstOf (frameTests w h f) ≡ 0) where
   pub frame-clear : Clear (frameTests w h f)

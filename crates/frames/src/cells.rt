@@ -1,7 +1,7 @@
 // Ground 13 and the load: loops over cells that always run to the end, so that they are done many cells at a time.
 ghost use mathlib.Core.Path.{_≡_};
-ghost use Prim.Native.Nat.{_≤_, max};
-ghost use lib.ListN.{length};
+ghost use Prim.Native.Nat.{_≤_, min, max};
+ghost use lib.ListN.{length, take};
 ghost use Rattle.grids.specs.Frame.{badCell, load};
 ghost use Rattle.frames.specs.Leaves.{greatestOf, countOf};
 
@@ -25,11 +25,26 @@ fn greatest(cells: &[u8]) -> u8
     v
 }
 
-// Ground 13: whether a cell is above 1.
-pub(crate) fn bad_cell(cells: &[u8]) -> bool
+// Whether a cell is above 1.
+fn bad_cell(cells: &[u8]) -> bool
     ensures { λ r. ⌜ r ≡ badCell (now (cells .entry)) ⌝ }
 {
     greatest(cells) > 1
+}
+
+// The lesser of two lengths.
+fn lesser(a: usize, b: usize) -> usize
+    ensures { λ r. ⌜ r ≡ min a b ⌝ }
+{
+    if a < b { a } else { b }
+}
+
+// Ground 13 over the first n cells, or as many as there are.
+pub(crate) fn bad_among(cells: &[u8], n: usize) -> bool
+    ensures { λ r. ⌜ r ≡ badCell (take n (now (cells .entry))) ⌝ }
+{
+    let m = lesser(n, cells.len());
+    bad_cell(&cells[0..m])
 }
 
 // What a cell adds to the load.

@@ -8,8 +8,15 @@ use words::Answer;
 use words::Ground;
 ghost use mathlib.Core.Path.{_≡_};
 ghost use Rattle.words.specs.Ground.{stated, refusal, firstOf};
-ghost use Rattle.grids.specs.Frame.{frameTests, LoadCounted};
-ghost use Rattle.grids.specs.Grid.{putTests, stageTests};
+ghost use Rattle.grids.specs.Frame.{badSize, frameTests, LoadCounted};
+ghost use Rattle.grids.specs.Grid.{putTests, stageTests, workTests};
+
+// Ground 11: whether W or H isn't 1 to 240.
+pub fn bad_size(w: usize, h: usize) -> bool
+    ensures { λ r. ⌜ r ≡ badSize w h ⌝ }
+{
+    sizes::bad_size(w, h)
+}
 
 // What refuses a frame: the first of grounds 11, 12 and 13 that holds.
 pub fn frame_refusal(w: usize, h: usize, frame: &[u8]) -> Answer
@@ -21,7 +28,8 @@ pub fn frame_refusal(w: usize, h: usize, frame: &[u8]) -> Answer
     if sizes::wrong_length(w, h, frame) {
         return Answer::Refused(Ground::FrameLength);
     }
-    if cells::bad_cell(frame) {
+    let n = w * h;
+    if cells::bad_among(frame, n) {
         return Answer::Refused(Ground::CellValue);
     }
     Answer::Done(0)
@@ -36,6 +44,20 @@ pub fn put_refusal(w: usize, h: usize, frame: &[u8], image: &[u8]) -> Answer
         return Answer::Refused(ground);
     }
     if sizes::short_image(w, h, image) {
+        return Answer::Refused(Ground::ImageLength);
+    }
+    Answer::Done(0)
+}
+
+// What refuses a frame and two work images: the first of grounds 11 to 14 that holds, 14 over both images.
+pub fn work_refusal(w: usize, h: usize, frame: &[u8], first: &[u8], second: &[u8]) -> Answer
+    ensures { λ r. ⌜ stated r ≡ refusal (firstOf (workTests w h (now (frame .entry)) (now (first .entry)) (now (second .entry)))) ⌝ }
+{
+    let tested = frame_refusal(w, h, frame);
+    if let Answer::Refused(ground) = tested {
+        return Answer::Refused(ground);
+    }
+    if sizes::short_images(w, h, first, second) {
         return Answer::Refused(Ground::ImageLength);
     }
     Answer::Done(0)

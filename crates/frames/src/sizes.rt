@@ -1,6 +1,6 @@
 // Grounds 11, 12 and 14: the sides of a frame, and the lengths of frames and work images. W × H and the size of the grid are computed once ground 11 is passed.
 ghost use mathlib.Core.Path.{_≡_};
-ghost use mathlib.Core.Bool.{false};
+ghost use mathlib.Core.Bool.{false, _||_};
 ghost use Rattle.grids.specs.Frame.{badSide, badSize, wrongLength, gridSize, shortImage};
 
 // Whether a side isn't 1 to 240.
@@ -45,4 +45,15 @@ pub(crate) fn short_image(w: usize, h: usize, image: &[u8]) -> bool
     ensures { λ r. ⌜ r ≡ shortImage w h (now (image .entry)) ⌝ }
 {
     image.len() < grid_size(w, h)
+}
+
+// Ground 14 of two work images: whether either is shorter than the grid.
+pub(crate) fn short_images(w: usize, h: usize, first: &[u8], second: &[u8]) -> bool
+    requires { ⌜ badSize w h ≡ false ⌝ }
+    ensures { λ r. ⌜ r ≡ (shortImage w h (now (first .entry)) || shortImage w h (now (second .entry))) ⌝ }
+{
+    if short_image(w, h, first) {
+        return true;
+    }
+    short_image(w, h, second)
 }

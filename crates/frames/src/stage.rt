@@ -4,39 +4,19 @@ use super::sizes;
 use words::Answer;
 use words::Ground;
 ghost use mathlib.Core.Path.{_≡_};
-ghost use mathlib.Core.Bool.{false, _||_};
-ghost use Prim.Native.Nat.{min};
+ghost use mathlib.Core.Bool.{false};
 ghost use lib.ListN.{take};
 ghost use Rattle.words.specs.Ground.{stated, refusal, firstOf};
-ghost use Rattle.grids.specs.Frame.{badSize, badCell, gridSize, shortImage};
+ghost use Rattle.grids.specs.Frame.{badSize, badCell, gridSize};
 ghost use Rattle.grids.specs.Grid.{stageTests};
-
-// The lesser of two lengths.
-fn lesser(a: usize, b: usize) -> usize
-    ensures { λ r. ⌜ r ≡ min a b ⌝ }
-{
-    if a < b { a } else { b }
-}
 
 // Ground 13 of a grid: whether a byte of it is above 1, as far as its image goes.
 fn bad_grid(w: usize, h: usize, image: &[u8]) -> bool
     requires { ⌜ badSize w h ≡ false ⌝ }
     ensures { λ r. ⌜ r ≡ badCell (take (gridSize w h) (now (image .entry))) ⌝ }
 {
-    let size = sizes::grid_size(w, h);
-    let n = lesser(size, image.len());
-    cells::bad_cell(&image[0..n])
-}
-
-// Ground 14 of two work images: whether either is shorter than the grid.
-fn short_images(w: usize, h: usize, from: &[u8], to: &[u8]) -> bool
-    requires { ⌜ badSize w h ≡ false ⌝ }
-    ensures { λ r. ⌜ r ≡ (shortImage w h (now (from .entry)) || shortImage w h (now (to .entry))) ⌝ }
-{
-    if sizes::short_image(w, h, from) {
-        return true;
-    }
-    sizes::short_image(w, h, to)
+    let n = sizes::grid_size(w, h);
+    cells::bad_among(image, n)
 }
 
 // The first ground that holds.
@@ -58,7 +38,7 @@ pub(crate) fn refused(word: u32, w: usize, h: usize, from: &[u8], to: &[u8]) -> 
     if bad_grid(w, h, from) {
         return Answer::Refused(Ground::CellValue);
     }
-    if short_images(w, h, from, to) {
+    if sizes::short_images(w, h, from, to) {
         return Answer::Refused(Ground::ImageLength);
     }
     Answer::Done(0)

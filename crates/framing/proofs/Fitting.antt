@@ -1,12 +1,13 @@
 -- Where no ground refuses a frame and its images, they fit what is written: so the call does its work.
 use mathlib.Core.Path.{_≡_, sym, _∙_, ap}
-use mathlib.Core.Bool.{Bool, false, not, _&&_}
+use mathlib.Core.Bool.{Bool, false, not}
 use mathlib.Core.List.{List, _++_}
 use Prim.Native.Nat.{ℕ, _+_, _*_, _≤_}
 use native.Mathlib.Omega.{arith}
-use lib.Dec.{T, leb, le→leb, nltb→le, eqb, eqb→eq}
+use lib.Dec.{T, nltb→le, eqb, eqb→eq}
 use lib.ListN.{length, drop}
-use Rattle.plane.proofs.Tests.{T-and, T-false, not-or, un-not}
+use borrow.Author.Tests.{le-leb}
+use Rattle.plane.proofs.Tests.{T-false, not-or, un-not}
 use Rattle.words.specs.declared.Answer.{Answer}
 use Rattle.words.specs.Ground.{Test, firstOf, stated, result, Answered}
 use Rattle.words.specs.Word.{stageMask}
@@ -14,8 +15,10 @@ use Rattle.words.proofs.Refusals.{clear}
 use Rattle.grids.specs.Frame.{free, badSize, gridSize, shortImage, frameTests}
 use Rattle.grids.specs.Grid.{putTests, stageTests, FramePut, Staged}
 use Rattle.frames.proofs.Sides.{sides}
-use Rattle.sweeps.specs.Sweeps.{sizesFit, frameFits, Swept, Framed}
-use Rattle.sweeps.proofs.OnGrids.{once-is-swept, put-is-framed}
+use Rattle.placing.specs.Placing.{cutFits, Cut}
+use Rattle.placing.proofs.OnGrids.{put-is-cut}
+use Rattle.sweeps.specs.Sweeps.{sizesFit, Swept}
+use Rattle.sweeps.proofs.OnGrids.{once-is-swept}
 
 -- ---- calls
 
@@ -25,25 +28,16 @@ module _ {Unchanged Work : Type 0} (ts : List Test) (r : Answer) where
 
 -- ---- what fits
 
--- six tests that hold
-all-six : (a b c d e f : Bool) → T a → T b → T c → T d → T e → T f → T (a && b && c && d && e && f)
-all-six a b c d e f p q r s t u =
-    T-and (a && b && c && d && e) f .1 (T-and (a && b && c && d) e .1 (T-and (a && b && c) d .1 (T-and (a && b) c .1 (T-and a b .1 (p, q), r), s), t), u)
-
 module _ (W H : ℕ) (s : badSize W H ≡ false) where
-  -- the sides of the grid
-  near : (W + 15 ≤ 65535) × (H + 15 ≤ 65535)
-  near = let b = sides W H s in (omega (arith, b .0), omega (arith, b .1))
+  put-fits : (n k : ℕ) → W * H ≤ n → gridSize W H ≤ k → T (cutFits (W + 15) (H + 15) W H 15 15 n k)
+  put-fits n k h l =
+      let b = sides W H s in
+      rw (le-leb (W + 15) 65535 (omega arith), le-leb (H + 15) 65535 (omega arith), le-leb W 65535 (omega arith), le-leb H 65535 (omega arith), le-leb (W * H) n h, le-leb (gridSize W H) k l) tt
 
-  frame-fits : (n k : ℕ) → W * H ≤ n → gridSize W H ≤ k → T (frameFits W H (W + 15) (H + 15) n k)
-  frame-fits n k h l = all-six (leb W (W + 15)) (leb H (H + 15)) (leb (W + 15) 65535) (leb (H + 15) 65535) (leb (W * H) n) (leb (gridSize W H) k)
-      (le→leb W (W + 15) (omega arith)) (le→leb H (H + 15) (omega arith)) (le→leb (W + 15) 65535 (near .0)) (le→leb (H + 15) 65535 (near .1))
-      (le→leb (W * H) n h) (le→leb (gridSize W H) k l)
-
-  grid-fits : (n k : ℕ) → gridSize W H ≤ n → gridSize W H ≤ k → T (sizesFit (W + 15) (H + 15) n k)
-  grid-fits n k h l = all-six (leb 3 (W + 15)) (leb 3 (H + 15)) (leb (W + 15) 65535) (leb (H + 15) 65535) (leb (gridSize W H) n) (leb (gridSize W H) k)
-      (le→leb 3 (W + 15) (omega arith)) (le→leb 3 (H + 15) (omega arith)) (le→leb (W + 15) 65535 (near .0)) (le→leb (H + 15) 65535 (near .1))
-      (le→leb (gridSize W H) n h) (le→leb (gridSize W H) k l)
+  stage-fits : (n k : ℕ) → gridSize W H ≤ n → gridSize W H ≤ k → T (sizesFit (W + 15) (H + 15) n k)
+  stage-fits n k h l =
+      let b = sides W H s in
+      rw (le-leb 3 (W + 15) (omega arith), le-leb 3 (H + 15) (omega arith), le-leb (W + 15) 65535 (omega arith), le-leb (H + 15) 65535 (omega arith), le-leb (gridSize W H) n h, le-leb (gridSize W H) k l) tt
 
 -- ---- putting
 
@@ -57,10 +51,10 @@ module _ (W H : ℕ) (f i : List ℕ) (z : firstOf (putTests W H f i) ≡ 0) whe
   pub put-sides : badSize W H ≡ false
   put-sides = T-false (badSize W H) (passed .0)
 
-  pub put-done : (b : Bool) (i′ : List ℕ) (r : Answer) → stated r ≡ result 0 → Framed free W H (W + 15) (H + 15) f i b i′ → FramePut W H f i r i′
+  pub put-done : (b : Bool) (i′ : List ℕ) (r : Answer) → stated r ≡ result 0 → Cut free (W + 15) (H + 15) W H 15 15 f i b i′ → FramePut W H f i r i′
   put-done b i′ r a F =
-      let t = frame-fits W H put-sides (length f) (length i) (omega (arith, passed .1)) (passed .2) in
-      done-call (putTests W H f i) r z (record { answer = a; image = F .done t ∙ ap (λ g. g ++ drop (gridSize W H) i) (sym (put-is-framed W H f)) })
+      let t = put-fits W H put-sides (length f) (length i) (omega (arith, passed .1)) (passed .2) in
+      done-call (putTests W H f i) r z (record { answer = a; image = F .done t ∙ ap (λ g. g ++ drop (gridSize W H) i) (sym (put-is-cut W H f)) })
 
 -- ---- the single stage
 
@@ -77,5 +71,5 @@ module _ (w W H : ℕ) (g i : List ℕ) (z : firstOf (stageTests w W H g i) ≡ 
 
   pub stage-done : (erode b : Bool) (i′ : List ℕ) (r : Answer) → stated r ≡ result 0 → Swept erode free (W + 15) (H + 15) (stageMask w) g i b i′ → Staged erode w W H g i r i′
   stage-done erode b i′ r a S =
-      let t = grid-fits W H stage-sides (length g) (length i) (ready .1) (ready .2) in
+      let t = stage-fits W H stage-sides (length g) (length i) (ready .1) (ready .2) in
       done-call (stageTests w W H g i) r z (record { answer = a; image = S .done t ∙ ap (λ l. l ++ drop (gridSize W H) i) (sym (once-is-swept erode free W H (stageMask w) g)) })

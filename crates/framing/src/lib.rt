@@ -3,7 +3,7 @@ ghost use mathlib.Core.Path.{_≡_};
 ghost use Rattle.grids.specs.Grid.{FramePut, Staged};
 use words::Answer;
 
-// Putting: the frame into the grid of the image, with the rest of the grid free.
+// Putting: the frame into the grid of the image, with the rest of the grid free. The grid is cut out of the frame, 15 being no distance.
 pub fn put(w: usize, h: usize, frame: &[u8], image: &mut [u8]) -> Answer
     ensures { λ r. ⌜ FramePut w h (now (frame .entry)) (now (image .entry)) r (now (image .exit)) ⌝ }
 {
@@ -11,7 +11,7 @@ pub fn put(w: usize, h: usize, frame: &[u8], image: &mut [u8]) -> Answer
     if let Answer::Refused(ground) = tested {
         return Answer::Refused(ground);
     }
-    sweeps::put(frame, image, w, h, w + 15, h + 15, 0);
+    placing::cut(frame, image, w + 15, h + 15, w, h, 15, 15, 0);
     Answer::Done(0)
 }
 

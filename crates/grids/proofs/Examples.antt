@@ -10,7 +10,7 @@ use Rattle.words.specs.Ground.{firstOf, stated, result, refusal}
 use Rattle.words.specs.declared.Answer.{Answer}
 use Rattle.masks.specs.Mask.{maskCells, stage}
 use Rattle.grids.specs.Frame.{frameTests, load, free, full, LoadCounted}
-use Rattle.grids.specs.Grid.{putTests, stageTests, put, once, FramePut, Staged}
+use Rattle.grids.specs.Grid.{putTests, workTests, stageTests, put, once, FramePut, Staged}
 use Rattle.grids.specs.Image.{cells, valueAt}
 
 -- ---- grounds
@@ -45,6 +45,15 @@ image-255 = refl
 image-256 : firstOf (putTests 1 1 (1 ∷ []) (replicate 256 7)) ≡ 0
 unfolding putTests
 image-256 = refl
+
+-- a frame and two images: the frame's grounds in order, then either image
+work-order : (firstOf (workTests 0 1 (2 ∷ []) [] []) ≡ 11) × (firstOf (workTests 2 1 (2 ∷ []) [] []) ≡ 12) × (firstOf (workTests 1 1 (2 ∷ []) [] []) ≡ 13)
+unfolding workTests
+work-order = (refl, refl, refl)
+
+work-images : (firstOf (workTests 1 1 (1 ∷ []) (replicate 255 7) (replicate 256 7)) ≡ 14) × (firstOf (workTests 1 1 (1 ∷ []) (replicate 256 7) (replicate 255 7)) ≡ 14)
+unfolding workTests
+work-images = (refl, refl)
 
 -- a single stage: a plan's place word, a bit too many, a mask that isn't normal, no columns, a byte above 1 as far as the image goes, two short images
 stage-kind : firstOf (stageTests 0x40000003 0 1 (2 ∷ []) []) ≡ 2

@@ -5,7 +5,7 @@ use mathlib.Core.Bool.{Bool, true, false, not, cond, _&&_}
 use mathlib.Core.List.{List, _++_, map}
 use Prim.Native.Nat.{ℕ, zero, suc, _+_, _*_, _≤_, _<_}
 use native.Mathlib.Omega.{arith}
-use native.Mathlib.Nat.{add-zero, add-suc, suc-add, not-suc-le-zero, le-of-suc-le-suc}
+use native.Mathlib.Nat.{add-zero, add-suc, suc-add, mul-comm, mul-le-mul-right, not-suc-le-zero, le-of-suc-le-suc}
 use lib.Dec.{T, ltb, ltb→lt, lt→ltb}
 use lib.IntN.{ℤ, pos, negsuc, _+ℤ_, +ℤ-idr}
 use lib.ListN.{length, getD, length-map, List·getD-append, length-append}
@@ -78,6 +78,22 @@ module _ {A : Type 0} where
 
   pub view-cells : (v : A) (W H : ℕ) (f : Point → A) (p : Point) → view v W H (cells W H f) p ≡ cond (inside W H p) (f p) v
   view-cells v W H f p = viewZ v W H f (p .0) (p .1)
+
+  -- what stands past the rows of values is not read
+  pub view-starts : (v : A) (W H : ℕ) (g r : List A) → W * H ≤ length g → (p : Point) → view v W H (g ++ r) p ≡ view v W H g p
+  unfolding valueAt
+  view-starts v W H g r h p = go (p .0) (p .1)
+    where
+      place : (x y : ℕ) → x < W → y < H → y * W + x < W * H
+      place x y j k = let m = mul-le-mul-right {m = suc y} {n = H} W k in omega (arith, mul-comm W H)
+
+      go : (x y : ℤ) → valueAt v W H (g ++ r) x y ≡ valueAt v W H g x y
+      go (pos x) (pos y) = cond-eq (ltb x W && ltb y H) (getD (g ++ r) (y * W + x) v) v (getD g (y * W + x) v) (λ t.
+          let u = T-and (ltb x W) (ltb y H) .0 t in
+          let l = place x y (ltb→lt x W (u .0)) (ltb→lt y H (u .1)) in
+          List·getD-append g r v (y * W + x) (omega arith))
+      go (pos x) (negsuc y) = refl
+      go (negsuc x) y = refl
 
   -- a picture that is v outside loses nothing
   abbrev pub Within : A → ℕ → ℕ → (Point → A) → Type 0

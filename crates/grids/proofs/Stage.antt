@@ -1,9 +1,9 @@
 -- Pictures whose values are 0 or 1: dilation is ⊕ and erosion ⊖ of the occupied points. So a single stage is Minkowski's sum or difference with the
 -- mask's points, cut to the grid, whatever the value outside.
-use mathlib.Core.Path.{_≡_, refl, sym, _∙_, ap, subst}
+use mathlib.Core.Path.{_≡_, refl, sym, _∙_, ap, subst, fun-ext}
 use mathlib.Core.Logic.{_↔_, _⊎_, inl, inr}
 use mathlib.Core.Bool.{Bool, true, false, not, _&&_}
-use mathlib.Core.List.{List, [], _∷_, map}
+use mathlib.Core.List.{List, [], _∷_, _++_, map}
 use Prim.Native.Nat.{ℕ, zero, suc, _+_, _*_, _≤_, _<_, zero-le}
 use native.Mathlib.Omega.{arith}
 use native.Mathlib.Decide.{ℕ-discrete}
@@ -22,7 +22,7 @@ use Rattle.grids.specs.Frame.{free, full, greater, lesser, occupied, bad
 use Rattle.grids.specs.Grid.{grid, laid, once}
 use Rattle.grids.specs.Image.{valueAt, view, cells, fold, dilated, eroded}
 use Rattle.grids.proofs.Fold.{Semilattice, absorb}
-use Rattle.grids.proofs.Pictures.{getD-cells, length-cells}
+use Rattle.grids.proofs.Pictures.{getD-cells, length-cells, view-starts}
 
 pub greater-laws : Semilattice greater
 greater-laws = record { assoc = λ a b c. omega arith; comm = λ a b. omega arith; idem = λ a. omega arith }
@@ -138,6 +138,11 @@ pub once-cell : (erode : Bool) (v W H m : ℕ) (g : List ℕ) (x y : ℕ) → x 
     → getD (once erode v W H m g) (y * (W + 15) + x) 0 ≡ over erode (maskPoints m) (grid v W H g) (pos x, pos y)
 once-cell erode v W H m g x y h k =
     ap (λ l. getD l (y * (W + 15) + x) 0) (once-is erode v W H m g) ∙ getD-cells (W + 15) (H + 15) (over erode (maskPoints m) (grid v W H g)) x y 0 h k
+
+-- a stage reads the grid alone, and nothing that stands past it
+pub once-starts : (erode : Bool) (v W H m : ℕ) (g r : List ℕ) → gridSize W H ≤ length g → once erode v W H m (g ++ r) ≡ once erode v W H m g
+once-starts erode v W H m g r h =
+    once-is erode v W H m (g ++ r) ∙ ap (λ f. laid W H (over erode (maskPoints m) f)) (fun-ext (view-starts v (W + 15) (H + 15) g r h)) ∙ sym (once-is erode v W H m g)
 
 -- where the grid's bytes, read as far as its image goes, are at most 1, so is every cell of it on the plane
 pub grid-binary : (v W H : ℕ) (g : List ℕ) → v ≤ 1 → T (not (badCell (take (gridSize W H) g))) → Binary (grid v W H g)

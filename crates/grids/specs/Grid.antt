@@ -40,6 +40,11 @@ unfoldable pub putTests : ℕ → ℕ → List ℕ → List ℕ → List Test
 unfolding frameTests
 putTests W H f i = frameTests W H f ++ (14, shortImage W H i) ∷ []
 
+-- a frame and two work images: grounds 11 to 14
+unfoldable pub workTests : ℕ → ℕ → List ℕ → List ℕ → List ℕ → List Test
+unfolding frameTests
+workTests W H f i j = frameTests W H f ++ (14, shortImage W H i || shortImage W H j) ∷ []
+
 -- a single stage, of a stage word and two images: grounds 2, 3, 7, 11, 13 over the grid read as far as its image goes, and 14 over both images
 unfoldable pub stageTests : ℕ → ℕ → ℕ → List ℕ → List ℕ → List Test
 stageTests w W H g i =

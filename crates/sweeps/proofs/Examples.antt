@@ -1,13 +1,12 @@
--- Worked cases: which sizes fit, and what a stage and a frame put give on grids of three columns and three rows.
+-- Worked cases: which sizes fit, and what a stage gives on grids of three columns and three rows.
 use mathlib.Core.Path.{_≡_, refl}
 use mathlib.Core.Bool.{true, false}
-use mathlib.Core.List.{List, [], _∷_, _++_}
-use Prim.Native.Nat.{ℕ}
+use mathlib.Core.List.{[], _∷_, _++_}
 use lib.ListN.{replicate}
 use Rattle.plane.specs.Point.{_+ᵖ_, negᵖ}
 use Rattle.masks.specs.Mask.{maskCells}
 use Rattle.grids.specs.Image.{cells, valueAt}
-use Rattle.sweeps.specs.Sweeps.{swept, framed, over, sizesFit, frameFits}
+use Rattle.sweeps.specs.Sweeps.{swept, sizesFit}
 
 -- the grids of frames of 1 and of 240 columns and rows fit
 fits-16 : sizesFit 16 16 256 256 ≡ true
@@ -22,12 +21,6 @@ short-first = refl
 
 short-second : sizesFit 16 16 256 255 ≡ false
 short-second = refl
-
-frame-fits-240 : frameFits 240 240 255 255 57600 65025 ≡ true
-frame-fits-240 = refl
-
-frame-wider : frameFits 17 1 16 16 17 256 ≡ false
-frame-wider = refl
 
 -- the cell (2, 0) is not carried round to row 1 by dilation with cells 0 and 1 of a row
 no-wrap : swept false 0 3 3 3 (0 ∷ 0 ∷ 1 ∷ replicate 6 0) ≡ 0 ∷ 0 ∷ 1 ∷ replicate 6 0
@@ -47,8 +40,3 @@ outside-1 = refl
 two-down : swept false 5 3 3 64 (7 ∷ 8 ∷ 9 ∷ replicate 6 1) ≡ replicate 6 5 ++ 7 ∷ 8 ∷ 9 ∷ []
 unfolding swept cells valueAt maskCells _+ᵖ_ negᵖ
 two-down = refl
-
--- a frame of two columns and one row among cells of 4, and a byte past the grid
-framed-4 : over 6 (framed 4 2 1 3 2 (1 ∷ 0 ∷ [])) (replicate 7 9) ≡ 1 ∷ 0 ∷ 4 ∷ 4 ∷ 4 ∷ 4 ∷ 9 ∷ []
-unfolding framed cells valueAt
-framed-4 = refl

@@ -1,5 +1,4 @@
--- Columns and rows against the flat index: row y, column x of a grid of w columns stands at y * w + x. Away from the side a reading at a flat distance is
--- that of the cell.
+-- Away from the side a reading at a flat distance is that of the cell: row y, column x of a grid of w columns stands at y * w + x.
 use mathlib.Core.Path.{_≡_, refl, sym, ap, _∙_}
 use mathlib.Core.Logic.{⊎-elim}
 use mathlib.Core.Bool.{true, false}
@@ -10,25 +9,9 @@ use native.Mathlib.Omega.{arith}
 use lib.ListN.{getD}
 use borrow.Author.Tests.{lt-ltb, le-ltb, le-leb, lt-leb}
 use Rattle.sweeps.specs.Flat.{readFlat, readCell, overBits, flatAt, stageAt, pickOf, seedOf}
-use Rattle.sweeps.proofs.Ranges.{lt-or-le}
+use Rattle.runs.proofs.Ranges.{lt-or-le}
+use Rattle.runs.proofs.FlatRows.{rows-apart, flat-lt}
 use Rattle.sweeps.proofs.Readings.{back-in, back-out, ahead-in, ahead-out}
-
--- a row ends before a later one begins
-pub rows-apart : (w y y' : ℕ) → y < y' → y * w + w ≤ y' * w
-rows-apart w y y' l =
-    let a : (y + 1) * w ≤ y' * w = mul-le-mul-right w (omega arith) in omega (arith, add-mul y 1 w)
-
--- a cell of the grid stands within it
-pub flat-lt : (w h x y : ℕ) → x < w → y < h → y * w + x < w * h
-flat-lt w h x y lx ly = omega (arith, rows-apart w y h ly, mul-comm w h)
-
--- two cells of the grid that stand at one index are one cell
-pub flat-inj : (w x y x' y' : ℕ) → x < w → x' < w → y * w + x ≡ y' * w + x' → x ≡ x'
-flat-inj w x y x' y' l l' e =
-    ⊎-elim
-    (λ (u : y < y'). absurd (let a = rows-apart w y y' u in omega arith))
-    (λ (u : y' ≤ y). ⊎-elim (λ (v : y' < y). absurd (let a = rows-apart w y' y v in omega arith)) (λ (v : y ≤ y'). let q : y ≡ y' = omega arith in omega (arith, ap (λ (n : ℕ). n * w) q)) (lt-or-le y' y))
-    (lt-or-le y y')
 
 module _ (v : ℕ) (g : List ℕ) (w h x y i j : ℕ) where
   -- away from the first columns, the cell at the flat distance is the cell at (x - i, y - j)

@@ -1,11 +1,8 @@
-pub mod Ranges
 pub mod Readings
 pub mod FlatIndex
 pub mod Columns
-pub mod Whole
 pub mod MaskBits
 pub mod PlaneReads
-pub mod FrameRows
 pub mod Sizing
 pub mod OnGrids
 pub mod Examples

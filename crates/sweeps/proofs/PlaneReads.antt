@@ -1,12 +1,12 @@
 -- What a cell reads for a mask's cell (i, j) is the picture of the grid at (x − i, y − j), or at (x + i, y + j); so a cell after the stage is that of the
 -- picture's dilation or erosion, and the grid of all of them is the grid taken through the stage.
-use mathlib.Core.Path.{_≡_, refl, sym, _∙_, ap}
+use mathlib.Core.Path.{_≡_, sym, _∙_, ap}
 use mathlib.Core.Logic.{⊎-elim}
 use mathlib.Core.Bool.{true, false}
 use mathlib.Core.List.{List}
 use Prim.Native.Nat.{ℕ, suc, _+_, _-_, _*_, _/_, _%_, _<_, _≤_}
 use native.Mathlib.Omega.{arith}
-use lib.IntN.{ℤ, pos, negsuc, _-ℤ_}
+use lib.IntN.{ℤ, pos, _-ℤ_}
 use lib.ListN.{length, getD}
 use borrow.Author.Tests.{lt-ltb, le-ltb, le-leb, lt-leb}
 use Rattle.plane.specs.Point.{_+ᵖ_, negᵖ, _-ᵖ_}
@@ -15,58 +15,39 @@ use Rattle.masks.specs.Mask.{maskPoints}
 use Rattle.grids.specs.Image.{valueAt, view, dilated, eroded}
 use Rattle.grids.specs.Frame.{free, full, greater, lesser}
 use Rattle.grids.proofs.Stage.{greater-laws, lesser-laws}
-use Rattle.sweeps.specs.Sweeps.{swept, over}
-use Rattle.sweeps.specs.Flat.{readCell, stageAt, Laid}
-use Rattle.sweeps.proofs.Ranges.{lt-or-le}
-use Rattle.sweeps.proofs.FlatIndex.{flat-lt, over-ap}
+use Rattle.runs.specs.Runs.{over, Laid}
+use Rattle.sweeps.specs.Sweeps.{swept}
+use Rattle.sweeps.specs.Flat.{readCell, stageAt}
+use Rattle.runs.proofs.Ranges.{lt-or-le}
+use Rattle.sweeps.proofs.FlatIndex.{over-ap}
 use Rattle.sweeps.proofs.MaskBits.{mask-fold, bitPoint}
-use Rattle.sweeps.proofs.Whole.{getD-any, laid-is}
+use Rattle.runs.proofs.Whole.{laid-is}
+use Rattle.runs.proofs.Values.{value-in, value-right, value-under, value-left, value-above}
 
 module _ (v : ℕ) (g : List ℕ) (w h : ℕ) (fits : w * h ≤ length g) where
-  value-in : (a b : ℕ) → a < w → b < h → valueAt v w h g (pos a) (pos b) ≡ getD g (b * w + a) 0
-  unfolding valueAt
-  value-in a b u t = rw (lt-ltb a w u, lt-ltb b h t) (getD-any g (b * w + a) v 0 (omega (arith, flat-lt w h a b u t)))
-
-  value-right : (a b : ℕ) → w ≤ a → valueAt v w h g (pos a) (pos b) ≡ v
-  unfolding valueAt
-  value-right a b u = rw (le-ltb a w u)
-
-  value-under : (a b : ℕ) → a < w → h ≤ b → valueAt v w h g (pos a) (pos b) ≡ v
-  unfolding valueAt
-  value-under a b u t = rw (lt-ltb a w u, le-ltb b h t)
-
-  value-left : (n : ℕ) (b : ℤ) → valueAt v w h g (negsuc n) b ≡ v
-  unfolding valueAt
-  value-left n (pos b) = refl
-  value-left n (negsuc b) = refl
-
-  value-above : (a n : ℕ) → valueAt v w h g (pos a) (negsuc n) ≡ v
-  unfolding valueAt
-  value-above a n = refl
-
   module _ (x y : ℕ) (lx : x < w) (ly : y < h) where
     pub read-ahead : (i j : ℕ) → view v w h g ((pos x, pos y) +ᵖ (pos i, pos j)) ≡ readCell true v g w h x y i j
     unfolding readCell _+ᵖ_
     read-ahead i j = ⊎-elim
         (λ (u : x + i < w). rw (lt-ltb (x + i) w u) (⊎-elim
-        (λ (t : y + j < h). rw (lt-ltb (y + j) h t) (value-in (x + i) (y + j) u t))
-        (λ (t : h ≤ y + j). rw (le-ltb (y + j) h t) (value-under (x + i) (y + j) u t))
+        (λ (t : y + j < h). rw (lt-ltb (y + j) h t) (value-in v g w h fits (x + i) (y + j) u t))
+        (λ (t : h ≤ y + j). rw (le-ltb (y + j) h t) (value-under v g w h (x + i) (y + j) u t))
         (lt-or-le (y + j) h)))
-        (λ (u : w ≤ x + i). rw (le-ltb (x + i) w u) (value-right (x + i) (y + j) u))
+        (λ (u : w ≤ x + i). rw (le-ltb (x + i) w u) (value-right v g w h (x + i) (y + j) u))
         (lt-or-le (x + i) w)
 
     left-of : (i : ℕ) (b : ℤ) → x < i → valueAt v w h g (pos x -ℤ pos i) b ≡ v
-    left-of i b u = ap (λ (a : ℤ). valueAt v w h g a b) (diff-lt x i u) ∙ value-left (i - suc x) b
+    left-of i b u = ap (λ (a : ℤ). valueAt v w h g a b) (diff-lt x i u) ∙ value-left v g w h (i - suc x) b
 
     above-of : (i j : ℕ) → i ≤ x → y < j → valueAt v w h g (pos x -ℤ pos i) (pos y -ℤ pos j) ≡ v
     above-of i j u t =
         ap (λ (a : ℤ). valueAt v w h g a (pos y -ℤ pos j)) (diff-ge x i u)
-        ∙ ap (λ (b : ℤ). valueAt v w h g (pos (x - i)) b) (diff-lt y j t) ∙ value-above (x - i) (j - suc y)
+        ∙ ap (λ (b : ℤ). valueAt v w h g (pos (x - i)) b) (diff-lt y j t) ∙ value-above v g w h (x - i) (j - suc y)
 
     back-of : (i j : ℕ) → i ≤ x → j ≤ y → valueAt v w h g (pos x -ℤ pos i) (pos y -ℤ pos j) ≡ getD g ((y - j) * w + (x - i)) 0
     back-of i j u t =
         ap (λ (a : ℤ). valueAt v w h g a (pos y -ℤ pos j)) (diff-ge x i u)
-        ∙ ap (λ (b : ℤ). valueAt v w h g (pos (x - i)) b) (diff-ge y j t) ∙ value-in (x - i) (y - j) (omega arith) (omega arith)
+        ∙ ap (λ (b : ℤ). valueAt v w h g (pos (x - i)) b) (diff-ge y j t) ∙ value-in v g w h fits (x - i) (y - j) (omega arith) (omega arith)
 
     pub read-back : (i j : ℕ) → view v w h g ((pos x, pos y) -ᵖ (pos i, pos j)) ≡ readCell false v g w h x y i j
     unfolding readCell _+ᵖ_ negᵖ

@@ -2,7 +2,7 @@
 use mathlib.Core.Path.{_≡_}
 use mathlib.Core.Bool.{Bool, true, false, cond}
 use mathlib.Core.List.{List}
-use Prim.Native.Nat.{ℕ, zero, suc, _+_, _-_, _*_, _/_, _%_, _^_, _<_, _≤_}
+use Prim.Native.Nat.{ℕ, zero, suc, _+_, _-_, _*_, _/_, _%_, _^_, _<_}
 use lib.Dec.{leb, ltb, eqb}
 use lib.ListN.{length, getD}
 use Rattle.grids.specs.Frame.{free, full, greater, lesser}
@@ -44,28 +44,8 @@ readFlat false v g n o k = cond (leb o k) (getD g (k - o) 0) v
 unfoldable pub flatAt : Bool → ℕ → List ℕ → ℕ → ℕ → ℕ → ℕ → ℕ → ℕ
 flatAt erode v g n w m b k = overBits (pickOf erode) (seedOf erode) (λ b. readFlat erode v g n (b / 3 * w + b % 3) k) m b
 
--- d′ is f on the indices from p to e, and d elsewhere
-pub record Ranged {A : Type 0} (z : A) (p e : ℕ) (f : ℕ → A) (d d′ : List A) : Type 0 where
-  pub len : length d′ ≡ length d
-  pub at : (k : ℕ) → p ≤ k → k < e → getD d′ k z ≡ f k
-  pub below : (k : ℕ) → k < p → getD d′ k z ≡ getD d k z
-  pub above : (k : ℕ) → e ≤ k → getD d′ k z ≡ getD d k z
-
 -- d′ is d with F at the cells (c, y) of column c in the rows below r
 pub record Column (F : ℕ → ℕ → ℕ) (w c r : ℕ) (d d′ : List ℕ) : Type 0 where
   pub len : length d′ ≡ length d
   pub at : (y : ℕ) → y < r → getD d′ (y * w + c) 0 ≡ F c y
   pub rest : (k : ℕ) → ((y : ℕ) → y < r → k ≡ y * w + c → ⊥) → getD d′ k 0 ≡ getD d k 0
-
--- d′ is d with F at each cell of w columns and h rows; past them it is unchanged
-pub record Laid (F : ℕ → ℕ → ℕ) (w h : ℕ) (d d′ : List ℕ) : Type 0 where
-  pub len : length d′ ≡ length d
-  pub at : (x y : ℕ) → x < w → y < h → getD d′ (y * w + x) 0 ≡ F x y
-  pub past : (k : ℕ) → w * h ≤ k → getD d′ k 0 ≡ getD d k 0
-
--- d′ is d with the first r rows, of w cells each, of the frame f put into the rows of v cells
-pub record Rows (f : List ℕ) (w v r : ℕ) (d d′ : List ℕ) : Type 0 where
-  pub len : length d′ ≡ length d
-  pub at : (x y : ℕ) → x < w → y < r → getD d′ (y * v + x) 0 ≡ getD f (y * w + x) 0
-  pub side : (x y : ℕ) → w ≤ x → x < v → y < r → getD d′ (y * v + x) 0 ≡ getD d (y * v + x) 0
-  pub rest : (k : ℕ) → r * v ≤ k → getD d′ k 0 ≡ getD d k 0

@@ -1,14 +1,14 @@
-// The single stage and the putting of a frame, on flat slices of bytes: stage and put. The value of cells outside is the caller's.
+// The single stage on flat slices of bytes: stage. The value of cells outside is the caller's.
 // A stage goes over the grid by flat index, and then over the columns at the side again, cell by cell. Nothing is divided by the width.
-mod frames;
 mod sizes;
 
 ghost use mathlib.Core.Bool.{true, false};
 ghost use mathlib.Core.Path.{_≡_};
 ghost use Prim.Native.Nat.{_+_, _*_, _<_, _≤_};
 ghost use lib.ListN.{length, getD};
-ghost use Rattle.sweeps.specs.Sweeps.{swept, framed, over, Swept, Framed};
-ghost use Rattle.sweeps.specs.Flat.{pickOf, seedOf, hasBit, Ranged, readFlat, readCell, flatAt, stageAt, Column};
+ghost use Rattle.runs.specs.Runs.{over, Ranged};
+ghost use Rattle.sweeps.specs.Sweeps.{swept, Swept};
+ghost use Rattle.sweeps.specs.Flat.{pickOf, seedOf, hasBit, readFlat, readCell, flatAt, stageAt, Column};
 
 // The lesser of two values for erosion, the greater for dilation.
 fn combine(a: u8, b: u8, erode: bool) -> u8
@@ -129,7 +129,7 @@ fn sweep(
     requires { ⌜ (p ≤ e) × (e ≤ n) × (n ≤ length (now src)) × (n ≤ length (now dst)) × (2 * w + 2 ≤ n) ⌝ }
     ensures { λ _. ⌜ Ranged 0 p e (flatAt erode v (now (src .entry)) n w mask 9) (now (dst .entry)) (now (dst .exit)) ⌝ }
 {
-    frames::fill(&mut dst[p..e], seed(erode));
+    runs::fill(&mut dst[p..e], seed(erode));
     let mut b: usize = 0;
     while b < 9 {
         if has(mask, b) {
@@ -256,12 +256,4 @@ pub fn stage(
     }
     through(src, dst, v, u, mask, outside, erode);
     true
-}
-
-// Puts a frame of w columns and h rows into the grid of v columns and u rows in dst; the rest of the grid becomes around. False, with nothing written,
-// where sizes do not fit.
-pub fn put(frame: &[u8], dst: &mut [u8], w: usize, h: usize, v: usize, u: usize, around: u8) -> bool
-    ensures { λ r. ⌜ Framed around w h v u (now (frame .entry)) (now (dst .entry)) r (now (dst .exit)) ⌝ }
-{
-    frames::put(frame, dst, w, h, v, u, around)
 }

@@ -1,6 +1,6 @@
 // Whether columns, rows and images fit one another, so that no product passes 32 bits and no index passes an image.
 ghost use mathlib.Core.Path.{_≡_};
-ghost use Rattle.sweeps.specs.Sweeps.{sizesFit, frameFits};
+ghost use Rattle.sweeps.specs.Sweeps.{sizesFit};
 
 // Whether a grid of v columns and u rows is one for a stage between images of n and of k bytes.
 pub fn stage_fits(v: usize, u: usize, n: usize, k: usize) -> bool
@@ -19,28 +19,6 @@ pub fn stage_fits(v: usize, u: usize, n: usize, k: usize) -> bool
         return false;
     }
     if n < v * u {
-        return false;
-    }
-    v * u <= k
-}
-
-// Whether a frame of w columns and h rows in n bytes goes into a grid of v columns and u rows in k bytes.
-pub fn frame_fits(w: usize, h: usize, v: usize, u: usize, n: usize, k: usize) -> bool
-    ensures { λ r. ⌜ r ≡ frameFits w h v u n k ⌝ }
-{
-    if v < w {
-        return false;
-    }
-    if u < h {
-        return false;
-    }
-    if 65535 < v {
-        return false;
-    }
-    if 65535 < u {
-        return false;
-    }
-    if n < w * h {
         return false;
     }
     v * u <= k

@@ -3,10 +3,15 @@ use borrow.Author.Needs.{needs}
 use mathlib.Core.Path.{_≡_, refl, sym, _∙_, ap}
 use mathlib.Core.List.{List}
 use Prim.Native.Nat.{ℕ}
-use lib.ListN.{drop}
+use native.Mathlib.Omega.{arith}
+use lib.ListN.{drop, take}
+use lib.Seq.{take-length}
+use mathlib.Core.Bool.{false}
 use Rattle.words.specs.Ground.{Test, firstOf, refusal}
 use Rattle.words.proofs.Refusals.{first-holds, first-fails}
-use Rattle.grids.specs.Frame.{frameTests}
+use Rattle.grids.specs.Frame.{frameTests, badSize, badCell}
+use Rattle.frames.proofs.Accepted.{right-length}
+use Rattle.frames.proofs.Sides.{few-cells}
 use Rattle.frames.proofs.frame_refusal.Statement.{statement}
 use Rattle.frames.proofs.frame_refusal.Tie as tie
 
@@ -35,9 +40,19 @@ passed-2 : (c : tie.Else2) → Passed 2 (from-2 c)
 unfolding frameTests
 passed-2 c = passed-1 (c .before .before) ∙ first-fails (tests (from-2 c)) 1 (sym (c .before .wrong-length .ensures) ∙ c .if2 .left)
 
+-- the sides pass, and the frame has W × H cells, so all of them are looked at
+sized : (c : tie.Else2) → badSize (from-2 c .args .w) (from-2 c .args .h) ≡ false
+sized c = sym (c .before .before .before .bad-size .ensures) ∙ c .before .before .if1 .left
+
+looked-at : (c : tie.After-bad-among) → c .bad-among .result ≡ badCell (from-2 (c .before) .args .frame .now)
+looked-at c =
+    let a = from-2 (c .before) .args in
+    let l = right-length (a .w) (a .h) (a .frame .now) (sym (c .before .before .wrong-length .ensures) ∙ c .before .if2 .left) in
+    c .bad-among .ensures ∙ ap (λ k. badCell (take k (a .frame .now))) (sym l) ∙ ap badCell (take-length (a .frame .now))
+
 passed-3 : (c : tie.Else3) → Passed 3 (from-3 c)
 unfolding frameTests
-passed-3 c = passed-2 (c .before .before) ∙ first-fails (tests (from-3 c)) 2 (sym (c .before .bad-cell .ensures) ∙ c .if3 .left)
+passed-3 c = passed-2 (c .before .before) ∙ first-fails (tests (from-3 c)) 2 (sym (looked-at (c .before)) ∙ c .if3 .left)
 
 bad-size-requires : tie.Need-bad-size-requires
 bad-size-requires c κs = search needs
@@ -57,13 +72,19 @@ returns-2 c =
     let e = sym (c .before .wrong-length .ensures) ∙ c .if2 .taken in
     sym (ap refusal (passed-1 (c .before .before) ∙ first-holds (tests (from-1 (c .before .before))) 1 e))
 
-bad-cell-requires : tie.Need-bad-cell-requires
-bad-cell-requires c κs = search needs
+mul-n : tie.Need-mul-n
+mul-n c =
+    let a = from-2 c .args in
+    let l = few-cells (a .w) (a .h) (sized c) in
+    record { fits = omega arith }
+
+bad-among-requires : tie.Need-bad-among-requires
+bad-among-requires c κs = search needs
 
 returns-3 : tie.Need-returns-3
 unfolding frameTests
 returns-3 c =
-    let e = sym (c .before .bad-cell .ensures) ∙ c .if3 .taken in
+    let e = sym (looked-at (c .before)) ∙ c .if3 .taken in
     sym (ap refusal (passed-2 (c .before .before) ∙ first-holds (tests (from-2 (c .before .before))) 2 e))
 
 returns-4 : tie.Need-returns-4
@@ -78,6 +99,7 @@ frame-refusal-spec =
     returns
     wrong-length-requires
     returns-2
-    bad-cell-requires
+    mul-n
+    bad-among-requires
     returns-3
     returns-4)

@@ -28,24 +28,24 @@ returns c =
 enum-told : tie.Need-enum-told
 enum-told c = search needs
 
-add-put : tie.Need-add-put
-add-put c =
+add-cut : tie.Need-add-cut
+add-cut c =
     let k = c .before .before in
     let t = k .before .put-refusal in
     let a = k .before .before .before .before .before .args in
-    let b = sides (a .w) (a .h) (put-sides (a .w) (a .h) (a .frame .now) (a .image .now) (no-refusal (t .result) _ (k .match .keys2) (t .ensures))) .0 in
+    let b = sides (a .w) (a .h) (put-sides (a .w) (a .h) (a .frame .now) (a .image .now) (no-refusal (t .result) _ (k .match .keys2) (t .ensures))) in
     record { fits = omega arith }
 
-add-put-2 : tie.Need-add-put-2
-add-put-2 c =
+add-cut-2 : tie.Need-add-cut-2
+add-cut-2 c =
     let k = c .before .before in
     let t = k .before .put-refusal in
     let a = k .before .before .before .before .before .args in
-    let b = sides (a .w) (a .h) (put-sides (a .w) (a .h) (a .frame .now) (a .image .now) (no-refusal (t .result) _ (k .match .keys2) (t .ensures))) .1 in
+    let b = sides (a .w) (a .h) (put-sides (a .w) (a .h) (a .frame .now) (a .image .now) (no-refusal (t .result) _ (k .match .keys2) (t .ensures))) in
     record { fits = omega arith }
 
-put-requires : tie.Need-put-requires
-put-requires c κs = search needs
+cut-requires : tie.Need-cut-requires
+cut-requires c κs = search needs
 
 same-length-2 : tie.Need-same-length-2
 same-length-2 c = search needs
@@ -55,7 +55,7 @@ returns-2 c =
     let k = c .before .before .before .before .before in
     let t = k .before .put-refusal in
     let a = k .before .before .before .before .before .args in
-    let p = c .before .before .put in
+    let p = c .before .before .cut in
     put-done (a .w) (a .h) (a .frame .now) (a .image .now) (no-refusal (t .result) _ (k .match .keys2) (t .ensures)) (p .result) _ _ refl (p .ensures)
 
 pub put-spec : {M : Type 1} → statement M
@@ -67,8 +67,8 @@ put-spec =
     same-length
     returns
     enum-told
-    add-put
-    add-put-2
-    put-requires
+    add-cut
+    add-cut-2
+    cut-requires
     same-length-2
     returns-2)

@@ -36,7 +36,7 @@ add-stage c =
     let k = c .before .before in
     let t = k .before .stage-refusal in
     let a = k .before .before .before .before .before .args in
-    let b = sides (a .w) (a .h) (stage-sides (a .word) (a .w) (a .h) (a .from .now) (a .to .now) (no-refusal (t .result) _ (k .match .keys2) (t .ensures))) .0 in
+    let b = sides (a .w) (a .h) (stage-sides (a .word) (a .w) (a .h) (a .from .now) (a .to .now) (no-refusal (t .result) _ (k .match .keys2) (t .ensures))) in
     record { fits = omega arith }
 
 add-stage-2 : tie.Need-add-stage-2
@@ -44,7 +44,7 @@ add-stage-2 c =
     let k = c .before .before in
     let t = k .before .stage-refusal in
     let a = k .before .before .before .before .before .args in
-    let b = sides (a .w) (a .h) (stage-sides (a .word) (a .w) (a .h) (a .from .now) (a .to .now) (no-refusal (t .result) _ (k .match .keys2) (t .ensures))) .1 in
+    let b = sides (a .w) (a .h) (stage-sides (a .word) (a .w) (a .h) (a .from .now) (a .to .now) (no-refusal (t .result) _ (k .match .keys2) (t .ensures))) in
     record { fits = omega arith }
 
 stage-requires : tie.Need-stage-requires

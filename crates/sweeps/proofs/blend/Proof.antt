@@ -4,8 +4,9 @@ use Prim.Native.Nat.{ℕ, _≤_, _-_}
 use native.Mathlib.Omega.{arith}
 use lib.ListN.{length, getD}
 use borrow.Author.Needs.{needs}
-use Rattle.sweeps.specs.Flat.{pickOf, Ranged}
-use Rattle.sweeps.proofs.Ranges.{ranged-none, ranged-more}
+use Rattle.runs.specs.Runs.{Ranged}
+use Rattle.sweeps.specs.Flat.{pickOf}
+use Rattle.runs.proofs.Ranges.{ranged-none, ranged-more}
 use Rattle.sweeps.proofs.blend.Statement.{statement}
 use Rattle.sweeps.proofs.blend.Tie as tie
 

@@ -2,8 +2,9 @@
 use mathlib.Core.Path.{_≡_}
 use Prim.Native.Nat.{_-_, _≤_}
 use lib.ListN.{length}
-use Rattle.sweeps.specs.Flat.{Ranged, flatAt}
-use Rattle.sweeps.proofs.Ranges.{ranged-none, ranged-join}
+use Rattle.runs.specs.Runs.{Ranged}
+use Rattle.sweeps.specs.Flat.{flatAt}
+use Rattle.runs.proofs.Ranges.{ranged-none, ranged-join}
 use borrow.Author.Needs.{needs}
 use native.Mathlib.Omega.{arith}
 use Rattle.sweeps.proofs.chunks.Statement.{statement}

@@ -2,7 +2,7 @@
 use mathlib.Core.Path.{_≡_}
 use Prim.Native.Nat.{_-_, _≤_}
 use Rattle.sweeps.specs.Flat.{stageAt, Column}
-use Rattle.sweeps.proofs.FlatIndex.{flat-lt}
+use Rattle.runs.proofs.FlatRows.{flat-lt}
 use Rattle.sweeps.proofs.Columns.{column-none, column-more}
 use borrow.Author.Needs.{needs}
 use native.Mathlib.Omega.{arith}

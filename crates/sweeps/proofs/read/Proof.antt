@@ -2,7 +2,7 @@
 use Prim.Native.Nat.{_+_, _-_}
 use borrow.Author.Tests.{lt-ltb, le-ltb, le-leb, lt-leb}
 use Rattle.sweeps.specs.Flat.{readCell}
-use Rattle.sweeps.proofs.FlatIndex.{flat-lt}
+use Rattle.runs.proofs.FlatRows.{flat-lt}
 use native.Mathlib.Omega.{arith}
 use borrow.Author.Needs.{needs}
 use Rattle.sweeps.proofs.read.Statement.{statement}

@@ -6,7 +6,7 @@ use Prim.Native.Nat.{ℕ, _+_, _-_, _≤_}
 use native.Mathlib.Omega.{arith}
 use lib.ListN.{getD}
 use Rattle.sweeps.specs.Flat.{pickOf, readFlat}
-use Rattle.sweeps.proofs.Ranges.{ranged-read, ranged-blend, ranged-blend-value, ranged-halves}
+use Rattle.runs.proofs.Ranges.{ranged-read, ranged-blend, ranged-blend-value, ranged-halves}
 use Rattle.sweeps.proofs.Readings.{back-in, back-out}
 use borrow.Author.Needs.{needs}
 use Rattle.sweeps.proofs.shift_back.Statement.{statement}

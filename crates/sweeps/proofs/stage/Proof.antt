@@ -5,7 +5,8 @@ use native.Mathlib.Omega.{arith}
 use lib.ListN.{length}
 use borrow.Author.Tests.{not-true, not-false}
 use Rattle.sweeps.specs.Sweeps.{swept, fitting}
-use Rattle.sweeps.proofs.Sizing.{sizes-say, was-kept, was-written}
+use Rattle.runs.proofs.Sizing.{was-kept, was-written}
+use Rattle.sweeps.proofs.Sizing.{sizes-say}
 use borrow.Author.Needs.{needs}
 use Rattle.sweeps.proofs.stage.Statement.{statement}
 use Rattle.sweeps.proofs.stage.Tie as tie

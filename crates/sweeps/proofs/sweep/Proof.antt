@@ -5,8 +5,9 @@ use mathlib.Core.Bool.{Bool, true, false}
 use mathlib.Core.List.{List}
 use Prim.Native.Nat.{ℕ, _+_, _-_, _*_, _/_, _%_, _≤_}
 use lib.ListN.{length, getD}
-use Rattle.sweeps.specs.Flat.{pickOf, hasBit, Ranged, readFlat, flatAt}
-use Rattle.sweeps.proofs.Ranges.{ranged-ap, ranged-part, ranged-same, ranged-then}
+use Rattle.runs.specs.Runs.{Ranged}
+use Rattle.sweeps.specs.Flat.{pickOf, hasBit, readFlat, flatAt}
+use Rattle.runs.proofs.Ranges.{ranged-ap, ranged-part, ranged-same, ranged-then}
 use Rattle.sweeps.proofs.Readings.{flat-none, flat-set, flat-clear, distance-le}
 use borrow.Author.Needs.{needs}
 use native.Mathlib.Omega.{arith}

@@ -2,7 +2,7 @@
 use Prim.Native.Nat.{_*_}
 use native.Mathlib.Omega.{arith}
 use borrow.Author.Tests.{le-leb, lt-leb}
-use Rattle.sweeps.proofs.Sizing.{product-le, sixth}
+use Rattle.runs.proofs.Sizing.{product-le, sixth}
 use Rattle.sweeps.proofs.sizes.stage_fits.Statement.{statement}
 use Rattle.sweeps.proofs.sizes.stage_fits.Tie as tie
 

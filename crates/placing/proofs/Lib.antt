@@ -1,0 +1,4 @@
+pub mod CutRows
+pub mod Sizing
+pub mod OnGrids
+pub mod Examples

@@ -1,0 +1,5 @@
+pub mod Ranges
+pub mod FlatRows
+pub mod Whole
+pub mod Values
+pub mod Sizing
