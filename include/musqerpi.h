@@ -110,6 +110,42 @@ int64_t musq_put(size_t w, size_t h, const uint8_t *frame, size_t frame_n, uint8
  * as far as its image goes), 14 (over both images). */
 int64_t musq_stage(uint32_t word, bool erode, size_t w, size_t h, const uint8_t *from, size_t from_n, uint8_t *to, size_t to_n);
 
+/* The four operations. X is the set of points whose cells are occupied, those
+ * outside the frame being free, and A the points of the plan: its offset added
+ * to the sum of its stages. Nothing is cut off before the end.
+ *   musq_dilate: all sums of a point of X and a point of A
+ *   musq_erode:  the points p for which p + a lies in X for every a of A
+ *   musq_open:   erosion, and then dilation of what that gives
+ *   musq_close:  dilation, and then erosion of what that gives
+ * first and second are two work images, each of (W + 15) x (H + 15) bytes or
+ * more, whatever they hold. Each call answers the number of stages that it ran:
+ * n for dilation and erosion, 2n for opening and closing, 0 included. The
+ * result is then had from musq_part; other bytes of the two grids may be
+ * anything. Plan and frame are never changed.
+ * Grounds: 1, 2, 3, 5, 6, 7, 8, 11, 12, 13, 14 (over both images). */
+int64_t musq_dilate(const uint32_t *plan, size_t n, size_t w, size_t h, const uint8_t *frame, size_t frame_n, uint8_t *first,
+                    size_t first_n, uint8_t *second, size_t second_n);
+int64_t musq_erode(const uint32_t *plan, size_t n, size_t w, size_t h, const uint8_t *frame, size_t frame_n, uint8_t *first,
+                   size_t first_n, uint8_t *second, size_t second_n);
+int64_t musq_open(const uint32_t *plan, size_t n, size_t w, size_t h, const uint8_t *frame, size_t frame_n, uint8_t *first,
+                  size_t first_n, uint8_t *second, size_t second_n);
+int64_t musq_close(const uint32_t *plan, size_t n, size_t w, size_t h, const uint8_t *frame, size_t frame_n, uint8_t *first,
+                   size_t first_n, uint8_t *second, size_t second_n);
+
+/* The part of a work image that is an operation's result, W x H bytes, row 0
+ * first. It is given the number that the operation answered, the same W and H
+ * and both images as they were left. The part stands at the start of the second
+ * image if the number is even, of the first if it is odd; *image is set to 2
+ * or 1 to say which. Answers the part's length in bytes, W x H. The part is
+ * empty, and the answer 0, if W or H isn't 1 to 240 or that image has fewer
+ * than W x H bytes; *image is set all the same. Refuses nothing, and changes
+ * nothing but *image, which must not overlap the rest. The cell (x, y) of the
+ * result is part[y * w + x] of
+ *     const uint8_t *part = image == 1 ? first : second;
+ */
+int64_t musq_part(size_t stages, size_t w, size_t h, const uint8_t *first, size_t first_n, const uint8_t *second, size_t second_n,
+                  uint8_t *image);
+
 #ifdef __cplusplus
 }
 #endif

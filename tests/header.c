@@ -47,6 +47,49 @@ static void frames(void)
     expect_bytes("musq_stage, erode", musq_stage(0x50000003, true, 3, 1, second, 288, first, 288), 0, first, eroded, 5);
 }
 
+/* The answer n of an operation on the frame of three columns is the one expected, and the part is what it left. */
+static void expect_part(const char *call, int64_t n, int64_t answer, const uint8_t *first, const uint8_t *second, const uint8_t *expected)
+{
+    uint8_t image = 0;
+    int64_t length = musq_part((size_t)n, 3, 1, first, 288, second, 288, &image);
+    const uint8_t *part = image == 1 ? first : second;
+
+    expect_bytes(call, n, answer, part, expected, 3);
+    expect_bytes(call, length, 3, &image, answer % 2 == 1 ? (const uint8_t *)"\1" : (const uint8_t *)"\2", 1);
+}
+
+/* The four operations: the frame 1 0 1 by columns 0 to 2, and 1 1 0 by the point (1, 0), a plan without a stage. */
+static void operations(void)
+{
+    static const uint32_t columns[] = {0x30000001, 0x40000f0f, 0x50000007};
+    static const uint32_t point[] = {0x30000000, 0x40000f10};
+    static const uint8_t frame[] = {1, 0, 1};
+    static const uint8_t full[] = {1, 1, 1};
+    static const uint8_t none[] = {0, 0, 0};
+    static const uint8_t two[] = {1, 1, 0};
+    static const uint8_t ahead[] = {0, 1, 1};
+    static const uint8_t back[] = {1, 0, 0};
+    static uint8_t first[288], second[288], as_before[288];
+    uint8_t image = 0;
+
+    memset(first, 0xa5, sizeof first);
+    memset(second, 0xa5, sizeof second);
+    memset(as_before, 0xa5, sizeof as_before);
+    expect_bytes("musq_dilate, short", musq_dilate(columns, 3, 3, 1, frame, 3, first, 288, second, 287), -MUSQ_IMAGE_LENGTH, first, as_before, 288);
+    expect_bytes("musq_erode, cut", musq_erode(columns, 2, 3, 1, frame, 3, first, 288, second, 288), -MUSQ_STAGE_COUNT, second, as_before, 288);
+    expect_bytes("musq_open, long", musq_open(columns, 3, 2, 1, frame, 3, first, 288, second, 288), -MUSQ_FRAME_LENGTH, first, as_before, 288);
+    expect_bytes("musq_close, 241", musq_close(columns, 3, 3, 241, frame, 3, first, 288, second, 288), -MUSQ_FRAME_SIZE, second, as_before, 288);
+    expect_part("musq_dilate", musq_dilate(columns, 3, 3, 1, frame, 3, first, 288, second, 288), 1, first, second, full);
+    expect_part("musq_erode", musq_erode(columns, 3, 3, 1, frame, 3, first, 288, second, 288), 1, first, second, none);
+    expect_part("musq_open", musq_open(columns, 3, 3, 1, frame, 3, first, 288, second, 288), 2, first, second, none);
+    expect_part("musq_close", musq_close(columns, 3, 3, 1, frame, 3, first, 288, second, 288), 2, first, second, full);
+    expect_part("musq_dilate, a point", musq_dilate(point, 2, 3, 1, two, 3, first, 288, second, 288), 0, first, second, ahead);
+    expect_part("musq_erode, a point", musq_erode(point, 2, 3, 1, two, 3, first, 288, second, 288), 0, first, second, back);
+    expect_part("musq_open, a point", musq_open(point, 2, 3, 1, two, 3, first, 288, second, 288), 0, first, second, two);
+    expect_part("musq_close, a point", musq_close(point, 2, 3, 1, two, 3, first, 288, second, 288), 0, first, second, two);
+    expect_bytes("musq_part, empty", musq_part(3, 3, 1, first, 2, second, 288, &image), 0, &image, (const uint8_t *)"\1", 1);
+}
+
 int main(void)
 {
     static const uint32_t row[] = {0x10000000, 0x2000000f};
@@ -73,5 +116,6 @@ int main(void)
     expect("musq_sum, a plan", musq_sum(row, 2, plan, 4, out, 17), -MUSQ_WORD_KIND, out, row);
     expect("musq_sum", musq_sum(row, 2, cell, 2, out, 17), 2, out, row);
     frames();
+    operations();
     return wrong;
 }

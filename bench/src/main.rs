@@ -1,8 +1,9 @@
-//! Times the library beside Rust implementations, on the same inputs: the calls that
-//! answer shapes here, planning in planning.rs. See README.md.
+//! Times the library beside other implementations, on the same inputs: the calls that
+//! answer shapes here, planning in planning.rs, frames in frames.rs. See README.md.
 
 mod families;
 mod fast;
+mod frames;
 mod planning;
 mod search;
 
@@ -156,8 +157,9 @@ fn main() {
     match std::env::args().nth(1).as_deref() {
         None => shape_calls(),
         Some("planning") => planning::run(),
+        Some("frames") => frames::run(),
         Some(other) => {
-            eprintln!("{other}: the only table with a name is planning");
+            eprintln!("{other}: the tables with a name are planning and frames");
             std::process::exit(2);
         }
     }

@@ -7,6 +7,7 @@ pub mod expect;
 pub mod frames;
 pub mod library;
 pub mod lists;
+pub mod operations;
 pub mod random;
 pub mod reference;
 pub mod tally;

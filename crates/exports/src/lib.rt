@@ -5,7 +5,9 @@ ghost use Rattle.shapes.specs.Calls.{Moved, Joined, Summed, TurnedBack};
 ghost use Rattle.planning.specs.Planning.{Planned};
 ghost use Rattle.grids.specs.Frame.{LoadCounted};
 ghost use Rattle.grids.specs.Grid.{FramePut, Staged};
-ghost use Rattle.exports.specs.Numbers.{signedOf, Stands};
+ghost use Rattle.cleaning.specs.declared.Operation.the-variants.{Dilation, Erosion, Opening, Closing};
+ghost use Rattle.cleaning.specs.Cleaning.{Cleaned};
+ghost use Rattle.exports.specs.Numbers.{signedOf, Stands, imageOf, PartFound};
 use words::Answer;
 
 // The result, or −N for refusal N.
@@ -87,4 +89,91 @@ pub extern "C" fn musq_stage(
     ensures { λ r. ⌜ Stands r (λ a. Staged erode word w h (now (from .entry)) (now (to .entry)) a (now (to .exit))) ⌝ }
 {
     signed(framing::stage(word, erode, w, h, from, to))
+}
+
+// Dilation of a frame by a plan.
+#[no_mangle]
+pub extern "C" fn musq_dilate(
+    plan: &[u32],
+    w: usize,
+    h: usize,
+    frame: &[u8],
+    first: &mut [u8],
+    second: &mut [u8],
+) -> i64
+    ensures { λ r. ⌜ Stands r (λ a. Cleaned Dilation (now (plan .entry)) w h (now (frame .entry)) (now (first .entry)) (now (second .entry)) a (now (first .exit)) (now (second .exit))) ⌝ }
+{
+    signed(cleaner::dilation(plan, w, h, frame, first, second))
+}
+
+// Erosion of a frame by a plan.
+#[no_mangle]
+pub extern "C" fn musq_erode(
+    plan: &[u32],
+    w: usize,
+    h: usize,
+    frame: &[u8],
+    first: &mut [u8],
+    second: &mut [u8],
+) -> i64
+    ensures { λ r. ⌜ Stands r (λ a. Cleaned Erosion (now (plan .entry)) w h (now (frame .entry)) (now (first .entry)) (now (second .entry)) a (now (first .exit)) (now (second .exit))) ⌝ }
+{
+    signed(cleaner::erosion(plan, w, h, frame, first, second))
+}
+
+// Opening of a frame by a plan.
+#[no_mangle]
+pub extern "C" fn musq_open(
+    plan: &[u32],
+    w: usize,
+    h: usize,
+    frame: &[u8],
+    first: &mut [u8],
+    second: &mut [u8],
+) -> i64
+    ensures { λ r. ⌜ Stands r (λ a. Cleaned Opening (now (plan .entry)) w h (now (frame .entry)) (now (first .entry)) (now (second .entry)) a (now (first .exit)) (now (second .exit))) ⌝ }
+{
+    signed(cleaner::opening(plan, w, h, frame, first, second))
+}
+
+// Closing of a frame by a plan.
+#[no_mangle]
+pub extern "C" fn musq_close(
+    plan: &[u32],
+    w: usize,
+    h: usize,
+    frame: &[u8],
+    first: &mut [u8],
+    second: &mut [u8],
+) -> i64
+    ensures { λ r. ⌜ Stands r (λ a. Cleaned Closing (now (plan .entry)) w h (now (frame .entry)) (now (first .entry)) (now (second .entry)) a (now (first .exit)) (now (second .exit))) ⌝ }
+{
+    signed(cleaner::closing(plan, w, h, frame, first, second))
+}
+
+// The number of the image that the part is in: 2, the second, if the number of stages run is even, and 1, the first, if odd.
+fn image_of(stages: usize) -> u8
+    ensures { λ r. ⌜ r ≡ imageOf stages ⌝ }
+{
+    if stages % 2 == 0 {
+        return 2;
+    }
+    1
+}
+
+// The part: its length, and in image the number of the image that it is the start of. A call for other languages returns no slice.
+#[no_mangle]
+pub extern "C" fn musq_part<'a>(
+    stages: usize,
+    w: usize,
+    h: usize,
+    first: &'a [u8],
+    second: &'a [u8],
+    image: &mut u8,
+) -> i64
+    ensures { λ r. ⌜ PartFound stages w h (now (first .entry)) (now (second .entry)) r (now (image .exit)) ⌝ }
+{
+    *image = image_of(stages);
+    let found = parts::part(stages, w, h, first, second);
+    found.len() as i64
 }

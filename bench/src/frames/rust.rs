@@ -1,0 +1,113 @@
+//! Stages in Rust: the form of the library's own, and a kernel's points applied
+//! directly, row by row.
+
+use super::kernel::Kernel;
+
+/// Cells that are gone through by one bit of the mask after the other, to stay in cache.
+const CHUNK: usize = 4096;
+
+/// The library's form: for each bit of the mask one flat loop over the grid, in chunks;
+/// then the two columns that took cells of a neighbouring row are done again.
+pub fn port(mask: u32, erode: bool, width: usize, from: &[u8], to: &mut [u8]) {
+    for (chunk, cells) in to.chunks_mut(CHUNK).enumerate() {
+        let start = chunk * CHUNK;
+        for bit in (0..9).filter(|bit| mask >> bit & 1 == 1) {
+            let (far, first) = (bit / 3 * width + bit % 3, mask & ((1 << bit) - 1) == 0);
+            match (erode, first) {
+                (true, true) => copy_ahead(cells, from.get(start + far..).unwrap_or(&[])),
+                (true, false) => least_ahead(cells, from.get(start + far..).unwrap_or(&[])),
+                (false, _) => behind(cells, from, start, far, first),
+            }
+        }
+    }
+    let columns = if erode {
+        [width - 2, width - 1]
+    } else {
+        [0, 1]
+    };
+    for column in columns {
+        for place in (column..to.len()).step_by(width) {
+            to[place] = cell(mask, erode, width, from, place);
+        }
+    }
+}
+
+/// The least of each cell and the one that stands so far ahead; past the end are 0s.
+fn least_ahead(cells: &mut [u8], ahead: &[u8]) {
+    let there = cells.len().min(ahead.len());
+    let (within, past) = cells.split_at_mut(there);
+    for (cell, &other) in within.iter_mut().zip(ahead) {
+        *cell = (*cell).min(other);
+    }
+    past.fill(0);
+}
+
+/// The cells that stand so far ahead; past the end are 0s.
+fn copy_ahead(cells: &mut [u8], ahead: &[u8]) {
+    let there = cells.len().min(ahead.len());
+    let (within, past) = cells.split_at_mut(there);
+    within.copy_from_slice(&ahead[..there]);
+    past.fill(0);
+}
+
+/// The cells that stand so far behind, or the greatest of these and the cells there
+/// are, the first of which has this place; before the start are 0s.
+fn behind(cells: &mut [u8], from: &[u8], start: usize, far: usize, first: bool) {
+    let before = far.saturating_sub(start).min(cells.len());
+    let others = &from[(start + before).saturating_sub(far)..];
+    let (out, within) = cells.split_at_mut(before);
+    if first {
+        out.fill(0);
+        within.copy_from_slice(&others[..within.len()]);
+        return;
+    }
+    for (cell, &other) in within.iter_mut().zip(others) {
+        *cell = (*cell).max(other);
+    }
+}
+
+/// One cell of the result, by looking at all cells of the mask.
+fn cell(mask: u32, erode: bool, width: usize, from: &[u8], place: usize) -> u8 {
+    let (x, y, height) = (place % width, place / width, from.len() / width);
+    let mut value = u8::from(erode);
+    for bit in (0..9).filter(|bit| mask >> bit & 1 == 1) {
+        let (i, j) = (bit % 3, bit / 3);
+        if erode {
+            let inside = x + i < width && y + j < height;
+            value = value.min(if inside {
+                from[place + j * width + i]
+            } else {
+                0
+            });
+        } else if i <= x && j <= y {
+            value = value.max(from[place - j * width - i]);
+        }
+    }
+    value
+}
+
+/// The kernel's points one after the other, each row by row: the greatest or least.
+pub fn direct(kernel: &Kernel, erode: bool, width: usize, from: &[u8], to: &mut [u8]) {
+    let height = to.len() / width;
+    to.fill(u8::from(erode));
+    for &(i, j) in &kernel.points {
+        if erode {
+            for y in 0..height {
+                let row = &mut to[y * width..(y + 1) * width];
+                if y + j >= height {
+                    row.fill(0);
+                    continue;
+                }
+                let others = &from[(y + j) * width + i..(y + j + 1) * width];
+                least_ahead(row, others);
+            }
+        } else {
+            for y in j..height {
+                let row = &mut to[y * width + i..(y + 1) * width];
+                for (cell, &other) in row.iter_mut().zip(&from[(y - j) * width..]) {
+                    *cell = (*cell).max(other);
+                }
+            }
+        }
+    }
+}

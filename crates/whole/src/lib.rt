@@ -1,0 +1,100 @@
+// Demand 3 as one function: it plans a shape, runs one of the four operations on a frame with exactly the words that planning wrote, and hands back the part.
+// What it promises is one statement, Claim in claim/specs/Whole.
+use cleaning::Operation;
+use words::Answer;
+ghost use mathlib.Core.Path.{_≡_};
+ghost use lib.ListN.{length};
+ghost use Rattle.words.specs.Ground.{stated};
+ghost use Rattle.cleaning.specs.Cleaning.{Cleaned};
+ghost use Rattle.claim.specs.Whole.{Claim, handedFor, Lent, Steps};
+
+// The operation, on a plan list.
+fn operate(
+    op: Operation,
+    plan: &[u32],
+    w: usize,
+    h: usize,
+    frame: &[u8],
+    first: &mut [u8],
+    second: &mut [u8],
+) -> Answer
+    ensures { λ r. ⌜ Cleaned op (now (plan .entry)) w h (now (frame .entry)) (now (first .entry)) (now (second .entry)) r (now (first .exit)) (now (second .exit)) ⌝ }
+{
+    match op {
+        Operation::Dilation => cleaner::dilation(plan, w, h, frame, first, second),
+        Operation::Erosion => cleaner::erosion(plan, w, h, frame, first, second),
+        Operation::Opening => cleaner::opening(plan, w, h, frame, first, second),
+        Operation::Closing => cleaner::closing(plan, w, h, frame, first, second),
+    }
+}
+
+// Plans into the list and runs the operation with the words written, as many as the length returned.
+fn steps(
+    op: Operation,
+    shape: &[u32],
+    plan: &mut [u32],
+    w: usize,
+    h: usize,
+    frame: &[u8],
+    first: &mut [u8],
+    second: &mut [u8],
+) -> Answer
+    ensures { λ r. ⌜ Steps op (now (shape .entry)) w h (now (frame .entry)) (now (first .entry)) (now (second .entry)) (now (plan .entry)) r (now (first .exit)) (now (second .exit)) ⌝ }
+{
+    let planned = planner::plan(shape, plan);
+    match planned {
+        Answer::Refused(ground) => Answer::Refused(ground),
+        Answer::Done(n) => {
+            let k = n as usize;
+            operate(op, &plan[0..k], w, h, frame, first, second)
+        }
+    }
+}
+
+// The operation with the shape's own plan: the number of stages run, or the refusal. The plan list is its own, so that a refusal changes nothing lent.
+pub fn run(
+    op: Operation,
+    shape: &[u32],
+    w: usize,
+    h: usize,
+    frame: &[u8],
+    first: &mut [u8],
+    second: &mut [u8],
+) -> Answer
+    ensures { λ r. ⌜ Claim op (now (shape .entry)) w h (now (frame .entry)) (now (first .entry)) (now (second .entry)) (stated r) (handedFor (stated r) w h (now (first .exit)) (now (second .exit)))
+        × Lent w h (now (first .entry)) (now (second .entry)) (stated r) (now (first .exit)) (now (second .exit)) ⌝ }
+{
+    let mut plan: [u32; 32] = [0; 32];
+    steps(op, shape, &mut plan, w, h, frame, first, second)
+}
+
+// The same, and the part handed back: nothing with a refusal. The refusal's number, or 0, goes to ground, and the number of stages run, or 0, to stages.
+pub fn clean<'a>(
+    op: Operation,
+    shape: &[u32],
+    w: usize,
+    h: usize,
+    frame: &[u8],
+    first: &'a mut [u8],
+    second: &'a mut [u8],
+    ground: &mut u32,
+    stages: &mut u32,
+) -> &'a [u8]
+    ensures { λ r. ⌜ Claim op (now (shape .entry)) w h (now (frame .entry)) (now (first .entry)) (now (second .entry)) (now (ground .exit), now (stages .exit)) (now r) ⌝ }
+{
+    let answered = run(op, shape, w, h, frame, first, second);
+    let a = &first[..];
+    let b = &second[..];
+    match answered {
+        Answer::Refused(g) => {
+            *ground = words::number(g);
+            *stages = 0;
+            parts::part(0, 0, 0, a, b)
+        }
+        Answer::Done(n) => {
+            *ground = 0;
+            *stages = n;
+            parts::part(n as usize, w, h, a, b)
+        }
+    }
+}
