@@ -25,7 +25,7 @@ fn sides_fit(w: usize, h: usize, v: usize, u: usize, a: usize, b: usize) -> bool
 }
 
 // Whether w columns and h rows in k bytes are cut out of v columns and u rows in n bytes, at the distances a and b.
-pub fn cut_fits(
+pub(crate) fn cut_fits(
     w: usize,
     h: usize,
     v: usize,

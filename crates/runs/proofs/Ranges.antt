@@ -113,31 +113,56 @@ module _ {A : Type 0} {z : A} where
       (ranged-part h g (subst (λ (i : ℕ). Ranged z 0 i (λ k. getD (midOf c (b - c) ss) k z) (midOf a (e - a) xs) ys) q r))
       (λ k lo hi. getD-mid z c (b - c) ss (k - a) (omega arith))
 
+  -- a part whose cells were changed one by one
+  pub ranged-cells : (F : ℕ → A → A) {a e : ℕ} {xs ys : List A} → a ≤ e → e ≤ length xs
+      → Ranged z 0 (length (midOf a (e - a) xs)) (λ k. F k (getD (midOf a (e - a) xs) k z)) (midOf a (e - a) xs) ys
+      → Ranged z a e (λ k. F (k - a) (getD xs k z)) xs (putMid a (e - a) xs ys)
+  ranged-cells F {a} {e} {xs} {ys} h g r =
+      ranged-ap (ranged-part h g r)
+      (λ k lo hi.
+      let q : a + (k - a) ≡ k = omega arith in
+      ap (λ (v : A). F (k - a) v) (getD-mid z a (e - a) xs (k - a) (omega arith) ∙ ap (λ (m : ℕ). getD xs m z) q))
+
   -- a part joined with a part of another list
   pub ranged-blend : (op : A → A → A) (c t : ℕ) (ss : List A) {a e : ℕ} {xs ys : List A} → a ≤ e → e ≤ length xs → e - a ≤ t
       → Ranged z 0 (length (midOf a (e - a) xs)) (λ k. op (getD (midOf a (e - a) xs) k z) (getD (midOf c t ss) k z)) (midOf a (e - a) xs) ys
       → Ranged z a e (λ k. op (getD xs k z) (getD ss (c + (k - a)) z)) xs (putMid a (e - a) xs ys)
   ranged-blend op c t ss {a} {e} {xs} {ys} h g u r =
-      ranged-ap (ranged-part h g r)
+      ranged-ap (ranged-cells (λ k v. op v (getD (midOf c t ss) k z)) h g r)
+      (λ k lo hi. ap (λ (v : A). op (getD xs k z) v) (getD-mid z c t ss (k - a) (omega arith)))
+
+  -- a part joined with two parts of another list
+  pub ranged-blend-two : (op : A → A → A) (c t c' t' : ℕ) (ss : List A) {a e : ℕ} {xs ys : List A} → a ≤ e → e ≤ length xs → e - a ≤ t → e - a ≤ t'
+      → Ranged z 0 (length (midOf a (e - a) xs)) (λ k. op (op (getD (midOf a (e - a) xs) k z) (getD (midOf c t ss) k z)) (getD (midOf c' t' ss) k z)) (midOf a (e - a) xs) ys
+      → Ranged z a e (λ k. op (op (getD xs k z) (getD ss (c + (k - a)) z)) (getD ss (c' + (k - a)) z)) xs (putMid a (e - a) xs ys)
+  ranged-blend-two op c t c' t' ss {a} {e} {xs} {ys} h g u u' r =
+      ranged-ap (ranged-cells (λ k v. op (op v (getD (midOf c t ss) k z)) (getD (midOf c' t' ss) k z)) h g r)
       (λ k lo hi.
-      let q : a + (k - a) ≡ k = omega arith in
-      ap (λ (v : A). op v (getD (midOf c t ss) (k - a) z)) (getD-mid z a (e - a) xs (k - a) (omega arith) ∙ ap (λ (m : ℕ). getD xs m z) q)
-      ∙ ap (λ (v : A). op (getD xs k z) v) (getD-mid z c t ss (k - a) (omega arith)))
+      ap (λ (v : A). op (op (getD xs k z) v) (getD (midOf c' t' ss) (k - a) z)) (getD-mid z c t ss (k - a) (omega arith))
+      ∙ ap (λ (v : A). op (op (getD xs k z) (getD ss (c + (k - a)) z)) v) (getD-mid z c' t' ss (k - a) (omega arith)))
 
   -- cells joined with readings, at another account of the readings
   pub ranged-read : (op : A → A → A) {s s' : ℕ → A} {p e : ℕ} {d d' : List A}
       → Ranged z p e (λ k. op (getD d k z) (s k)) d d' → ((k : ℕ) → p ≤ k → k < e → s k ≡ s' k) → Ranged z p e (λ k. op (getD d k z) (s' k)) d d'
   ranged-read op {d = d} r q = ranged-ap r (λ k lo hi. ap (λ (w : A). op (getD d k z) w) (q k lo hi))
 
+  -- the same with two readings a cell
+  pub ranged-read-two : (op : A → A → A) {s s' t t' : ℕ → A} {p e : ℕ} {d d' : List A}
+      → Ranged z p e (λ k. op (op (getD d k z) (s k)) (t k)) d d' → ((k : ℕ) → p ≤ k → k < e → s k ≡ s' k) → ((k : ℕ) → p ≤ k → k < e → t k ≡ t' k)
+      → Ranged z p e (λ k. op (op (getD d k z) (s' k)) (t' k)) d d'
+  ranged-read-two op {s' = s'} {t = t} {d = d} r q q' =
+      ranged-ap r (λ k lo hi. ap (λ (w : A). op (op (getD d k z) w) (t k)) (q k lo hi) ∙ ap (λ (w : A). op (op (getD d k z) (s' k)) w) (q' k lo hi))
+
+  -- cells joined with readings, and then with others
+  pub ranged-twice : (op : A → A → A) (s t : ℕ → A) {p e : ℕ} {d d' d'' : List A}
+      → Ranged z p e (λ k. op (getD d k z) (s k)) d d' → Ranged z p e (λ k. op (getD d' k z) (t k)) d' d'' → Ranged z p e (λ k. op (op (getD d k z) (s k)) (t k)) d d''
+  ranged-twice op s t r u = ranged-then r (ranged-ap u (λ k lo hi. ap (λ (w : A). op w (t k)) (r .at k lo hi)))
+
   -- a part joined with one value
   pub ranged-blend-value : (op : A → A → A) (v : A) {a e : ℕ} {xs ys : List A} → a ≤ e → e ≤ length xs
       → Ranged z 0 (length (midOf a (e - a) xs)) (λ k. op (getD (midOf a (e - a) xs) k z) v) (midOf a (e - a) xs) ys
       → Ranged z a e (λ k. op (getD xs k z) v) xs (putMid a (e - a) xs ys)
-  ranged-blend-value op v {a} {e} {xs} {ys} h g r =
-      ranged-ap (ranged-part h g r)
-      (λ k lo hi.
-      let q : a + (k - a) ≡ k = omega arith in
-      ap (λ (w : A). op w v) (getD-mid z a (e - a) xs (k - a) (omega arith) ∙ ap (λ (m : ℕ). getD xs m z) q))
+  ranged-blend-value op v h g r = ranged-cells (λ k w. op w v) h g r
 
   -- each half of a range joined with its readings
   pub ranged-halves : (op : A → A → A) (s : ℕ → A) {p m e : ℕ} {d d' d'' : List A} → p ≤ m → m ≤ e

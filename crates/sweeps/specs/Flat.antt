@@ -2,7 +2,7 @@
 use mathlib.Core.Path.{_≡_}
 use mathlib.Core.Bool.{Bool, true, false, cond}
 use mathlib.Core.List.{List}
-use Prim.Native.Nat.{ℕ, zero, suc, _+_, _-_, _*_, _/_, _%_, _^_, _<_}
+use Prim.Native.Nat.{ℕ, zero, suc, _+_, _-_, _*_, _/_, _%_, _^_, _<_, _≤_}
 use lib.Dec.{leb, ltb, eqb}
 use lib.ListN.{length, getD}
 use Rattle.grids.specs.Frame.{free, full, greater, lesser}
@@ -49,3 +49,10 @@ pub record Column (F : ℕ → ℕ → ℕ) (w c r : ℕ) (d d′ : List ℕ) : 
   pub len : length d′ ≡ length d
   pub at : (y : ℕ) → y < r → getD d′ (y * w + c) 0 ≡ F c y
   pub rest : (k : ℕ) → ((y : ℕ) → y < r → k ≡ y * w + c → ⊥) → getD d′ k 0 ≡ getD d k 0
+
+-- r is the first bit of the nine that m has from b on, 9 where it has none
+pub record NextBit (m b r : ℕ) : Type 0 where
+  pub from : b ≤ r
+  pub within : r ≤ 9
+  pub clear : (i : ℕ) → b ≤ i → i < r → hasBit m i ≡ false
+  pub set : r < 9 → hasBit m r ≡ true

@@ -3,7 +3,7 @@ ghost use mathlib.Core.Path.{_≡_};
 ghost use Rattle.sweeps.specs.Sweeps.{sizesFit};
 
 // Whether a grid of v columns and u rows is one for a stage between images of n and of k bytes.
-pub fn stage_fits(v: usize, u: usize, n: usize, k: usize) -> bool
+pub(crate) fn stage_fits(v: usize, u: usize, n: usize, k: usize) -> bool
     ensures { λ r. ⌜ r ≡ sizesFit v u n k ⌝ }
 {
     if v < 3 {

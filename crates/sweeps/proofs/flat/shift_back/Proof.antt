@@ -7,16 +7,10 @@ use native.Mathlib.Omega.{arith}
 use lib.ListN.{getD}
 use Rattle.sweeps.specs.Flat.{pickOf, readFlat}
 use Rattle.runs.proofs.Ranges.{ranged-read, ranged-blend, ranged-blend-value, ranged-halves}
-use Rattle.sweeps.proofs.Readings.{back-in, back-out}
+use Rattle.sweeps.proofs.Readings.{back-joined, back-out}
 use borrow.Author.Needs.{needs}
-use Rattle.sweeps.proofs.shift_back.Statement.{statement}
-use Rattle.sweeps.proofs.shift_back.Tie as tie
-
--- a cell of the part that was joined with the cells from q on
-joined : (v : ℕ) (g : List ℕ) (n o p q k : ℕ) → p ≤ k → q + o ≡ p → getD g (q + (k - p)) 0 ≡ readFlat false v g n o k
-joined v g n o p q k lo e =
-    let e' : q + (k - p) ≡ k - o = omega arith in
-    ap (λ (i : ℕ). getD g i 0) e' ∙ sym (back-in v g n o k (omega arith))
+use Rattle.sweeps.proofs.flat.shift_back.Statement.{statement}
+use Rattle.sweeps.proofs.flat.shift_back.Tie as tie
 
 sub-blend : tie.Need-sub-blend
 sub-blend c = search needs
@@ -50,7 +44,7 @@ returns c =
     let a = c .before .before .before .before .before .before .before .before .args in
     ranged-read (pickOf false)
     (ranged-blend (pickOf false) (a .p - a .o) (a .e - a .o - (a .p - a .o)) (a .src .now) (omega arith) (omega arith) (omega arith) (c .before .before .blend .ensures))
-    (λ k lo hi. joined (a .v) (a .src .now) (a .e) (a .o) (a .p) (a .p - a .o) k lo (omega arith))
+    (λ k lo hi. back-joined (a .v) (a .src .now) (a .e) (a .o) (a .p) (a .p - a .o) k lo (omega arith))
 
 sub-blend-value : tie.Need-sub-blend-value
 sub-blend-value c = search needs
@@ -99,7 +93,7 @@ returns-2 c =
     (ranged-read (pickOf false) r (λ k lo hi. sym (back-out (a .v) (a .src .now) (a .e) (a .o) k hi)))
     (ranged-read (pickOf false)
     (ranged-blend (pickOf false) 0 (a .e - a .o - 0) (a .src .now) (omega arith) (omega (arith, r .len)) (omega arith) (c .before .before .blend2 .ensures))
-    (λ k lo hi. joined (a .v) (a .src .now) (a .e) (a .o) (a .o) 0 k lo (omega arith)))
+    (λ k lo hi. back-joined (a .v) (a .src .now) (a .e) (a .o) (a .o) 0 k lo (omega arith)))
 
 sub-blend-value-2 : tie.Need-sub-blend-value-2
 sub-blend-value-2 c = search needs

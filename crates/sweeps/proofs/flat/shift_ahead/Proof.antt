@@ -7,16 +7,10 @@ use native.Mathlib.Omega.{arith}
 use lib.ListN.{getD}
 use Rattle.sweeps.specs.Flat.{pickOf, readFlat}
 use Rattle.runs.proofs.Ranges.{ranged-read, ranged-blend, ranged-blend-value, ranged-halves}
-use Rattle.sweeps.proofs.Readings.{ahead-in, ahead-out}
+use Rattle.sweeps.proofs.Readings.{ahead-joined, ahead-out}
 use borrow.Author.Needs.{needs}
-use Rattle.sweeps.proofs.shift_ahead.Statement.{statement}
-use Rattle.sweeps.proofs.shift_ahead.Tie as tie
-
--- a cell of the part that was joined with cells
-joined : (v : ℕ) (g : List ℕ) (n o p k : ℕ) → p ≤ k → k + o < n → getD g (p + o + (k - p)) 0 ≡ readFlat true v g n o k
-joined v g n o p k lo h =
-    let e : p + o + (k - p) ≡ k + o = omega arith in
-    ap (λ (i : ℕ). getD g i 0) e ∙ sym (ahead-in v g n o k h)
+use Rattle.sweeps.proofs.flat.shift_ahead.Statement.{statement}
+use Rattle.sweeps.proofs.flat.shift_ahead.Tie as tie
 
 add-if1 : tie.Need-add-if1
 add-if1 c = search needs
@@ -56,7 +50,7 @@ returns c =
     let a = c .before .before .before .before .before .before .before .before .args in
     ranged-read (pickOf true)
     (ranged-blend (pickOf true) (a .p + a .o) (a .e + a .o - (a .p + a .o)) (a .src .now) (omega arith) (omega arith) (omega arith) (c .before .before .blend .ensures))
-    (λ k lo hi. joined (a .v) (a .src .now) (a .n) (a .o) (a .p) k lo (omega arith))
+    (λ k lo hi. ahead-joined (a .v) (a .src .now) (a .n) (a .o) (a .p) k lo (omega arith))
 
 add-if2 : tie.Need-add-if2
 add-if2 c = search needs
@@ -108,7 +102,7 @@ returns-2 c =
     let a = c .before .before .before .before .before .before .before .before .before .before .before .before .before .args in
     let r = ranged-blend (pickOf true) (a .p + a .o) (a .n - (a .p + a .o)) (a .src .now) {a = a .p} {e = a .n - a .o} {xs = a .dst .now} (omega arith) (omega arith) (omega arith) (c .before .before .before .before .before .before .blend2 .ensures) in
     ranged-halves (pickOf true) (readFlat true (a .v) (a .src .now) (a .n) (a .o)) (omega arith) (omega arith)
-    (ranged-read (pickOf true) r (λ k lo hi. joined (a .v) (a .src .now) (a .n) (a .o) (a .p) k lo (omega arith)))
+    (ranged-read (pickOf true) r (λ k lo hi. ahead-joined (a .v) (a .src .now) (a .n) (a .o) (a .p) k lo (omega arith)))
     (ranged-read (pickOf true)
     (ranged-blend-value (pickOf true) (a .v) (omega arith) (omega (arith, r .len)) (c .before .before .blend-value .ensures))
     (λ k lo hi. sym (ahead-out (a .v) (a .src .now) (a .n) (a .o) k (omega arith))))

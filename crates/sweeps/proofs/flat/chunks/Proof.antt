@@ -7,8 +7,8 @@ use Rattle.sweeps.specs.Flat.{flatAt}
 use Rattle.runs.proofs.Ranges.{ranged-none, ranged-join}
 use borrow.Author.Needs.{needs}
 use native.Mathlib.Omega.{arith}
-use Rattle.sweeps.proofs.chunks.Statement.{statement}
-use Rattle.sweeps.proofs.chunks.Tie as tie
+use Rattle.sweeps.proofs.flat.chunks.Statement.{statement}
+use Rattle.sweeps.proofs.flat.chunks.Tie as tie
 
 abbrev Inv-loop : tie.InvT-loop
 Inv-loop src dst₀ n w mask v erode p₀ dst p = (p ≤ n) × (n ≤ length dst) × Ranged 0 0 p (flatAt erode v src n w mask 9) dst₀ dst

@@ -1,4 +1,4 @@
--- Each cell passed is joined with the one at its index; the measure is what is left of the part.
+-- Each cell passed is joined with the two at its index; the measure is what is left of the part.
 use mathlib.Core.Path.{_≡_, ap, _∙_}
 use Prim.Native.Nat.{ℕ, _≤_, _-_}
 use native.Mathlib.Omega.{arith}
@@ -7,14 +7,14 @@ use borrow.Author.Needs.{needs}
 use Rattle.runs.specs.Runs.{Ranged}
 use Rattle.sweeps.specs.Flat.{pickOf}
 use Rattle.runs.proofs.Ranges.{ranged-none, ranged-more}
-use Rattle.sweeps.proofs.blend.Statement.{statement}
-use Rattle.sweeps.proofs.blend.Tie as tie
+use Rattle.sweeps.proofs.flat.blend_two.Statement.{statement}
+use Rattle.sweeps.proofs.flat.blend_two.Tie as tie
 
 abbrev Inv-loop : tie.InvT-loop
-Inv-loop d₀ s erode k₀ d k = (k ≤ length d₀) × Ranged 0 0 k (λ k. pickOf erode (getD d₀ k 0) (getD s k 0)) d₀ d
+Inv-loop d₀ s t erode k₀ d k = (k ≤ length d₀) × Ranged 0 0 k (λ k. pickOf erode (pickOf erode (getD d₀ k 0) (getD s k 0)) (getD t k 0)) d₀ d
 
 abbrev μ-loop : tie.MeasureT-loop
-μ-loop d₀ s erode k₀ d k = length d₀ - k
+μ-loop d₀ s t erode k₀ d k = length d₀ - k
 
 loop-holds : tie.Need-loop-holds Inv-loop μ-loop
 loop-holds c = (omega arith, ranged-none 0 _ _)
@@ -28,6 +28,12 @@ shared-slice-read-combine c = search needs
 combine-requires : tie.Need-combine-requires Inv-loop μ-loop
 combine-requires c κs = search needs
 
+shared-slice-read-combine-2 : tie.Need-shared-slice-read-combine-2 Inv-loop μ-loop
+shared-slice-read-combine-2 c = search needs
+
+combine-requires-2 : tie.Need-combine-requires-2 Inv-loop μ-loop
+combine-requires-2 c κs = search needs
+
 slice-write-d : tie.Need-slice-write-d Inv-loop μ-loop
 slice-write-d c = search needs
 
@@ -39,12 +45,13 @@ loop-less c = search needs
 
 loop-again : tie.Need-loop-again Inv-loop μ-loop
 loop-again c =
-    let at-loop = c .before .before .before .before in
-    let at-start = at-loop .before .before .before in
-    let r = at-loop .loop .inv .1 in (
+    let at-loop = c .before .before .before .before .before .before in
+    let a = at-loop .before .before .before .before .args in
+    let k : ℕ = at-loop .loop .k in
+    let r = at-loop .loop .inv .1 in
+    let one = c .before .before .combine .ensures ∙ ap (λ (v : ℕ). pickOf (a .erode) v (getD (a .s .now) k 0)) (r .above k (omega arith)) in (
       omega arith,
-      ranged-more (c .combine .result) r (omega arith) (omega arith)
-          (c .combine .ensures ∙ ap (λ (v : ℕ). pickOf (at-start .args .erode) v (getD (at-start .args .s .now) (at-loop .loop .k) 0)) (r .above (at-loop .loop .k) (omega arith))),
+      ranged-more (c .combine2 .result) r (omega arith) (omega arith) (c .combine2 .ensures ∙ ap (λ (v : ℕ). pickOf (a .erode) v (getD (a .t .now) k 0)) one),
     )
 
 same-length : tie.Need-same-length Inv-loop μ-loop
@@ -53,11 +60,11 @@ same-length c = search needs
 returns : tie.Need-returns Inv-loop μ-loop
 returns c =
     let at-loop = c .before in
-    let e : at-loop .loop .k ≡ length (at-loop .before .before .before .args .d .now) = omega arith in
+    let e : at-loop .loop .k ≡ length (at-loop .before .before .before .before .args .d .now) = omega arith in
     rw e at (at-loop .loop .inv .1)
 
-pub blend-spec : {M : Type 1} → statement M
-blend-spec =
+pub blend-two-spec : {M : Type 1} → statement M
+blend-two-spec =
     tie.close
     (tie.spec
     Inv-loop
@@ -66,6 +73,8 @@ blend-spec =
     slice-read-combine
     shared-slice-read-combine
     combine-requires
+    shared-slice-read-combine-2
+    combine-requires-2
     slice-write-d
     add-k
     loop-less

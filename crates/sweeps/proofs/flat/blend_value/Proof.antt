@@ -7,8 +7,8 @@ use borrow.Author.Needs.{needs}
 use Rattle.runs.specs.Runs.{Ranged}
 use Rattle.sweeps.specs.Flat.{pickOf}
 use Rattle.runs.proofs.Ranges.{ranged-none, ranged-more}
-use Rattle.sweeps.proofs.blend_value.Statement.{statement}
-use Rattle.sweeps.proofs.blend_value.Tie as tie
+use Rattle.sweeps.proofs.flat.blend_value.Statement.{statement}
+use Rattle.sweeps.proofs.flat.blend_value.Tie as tie
 
 abbrev Inv-loop : tie.InvT-loop
 Inv-loop d₀ v erode k₀ d k = (k ≤ length d₀) × Ranged 0 0 k (λ k. pickOf erode (getD d₀ k 0) v) d₀ d

@@ -1,8 +1,8 @@
 -- By the kind of the stage.
 use Rattle.sweeps.specs.Flat.{readFlat}
 use borrow.Author.Needs.{needs}
-use Rattle.sweeps.proofs.shift.Statement.{statement}
-use Rattle.sweeps.proofs.shift.Tie as tie
+use Rattle.sweeps.proofs.flat.shift.Statement.{statement}
+use Rattle.sweeps.proofs.flat.shift.Tie as tie
 
 shift-ahead-requires : tie.Need-shift-ahead-requires
 shift-ahead-requires c κs = search needs

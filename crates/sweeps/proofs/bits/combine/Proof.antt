@@ -1,7 +1,7 @@
 -- The lesser or the greater of two, by cases.
 use native.Mathlib.Omega.{arith}
-use Rattle.sweeps.proofs.combine.Statement.{statement}
-use Rattle.sweeps.proofs.combine.Tie as tie
+use Rattle.sweeps.proofs.bits.combine.Statement.{statement}
+use Rattle.sweeps.proofs.bits.combine.Tie as tie
 
 returns : tie.Need-returns
 returns c = rw (c .before .if1 .taken) (omega arith)
