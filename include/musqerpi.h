@@ -133,8 +133,8 @@ int64_t musq_close(const uint32_t *plan, size_t n, size_t w, size_t h, const uin
                    size_t first_n, uint8_t *second, size_t second_n);
 
 /* The part of a work image that is an operation's result, W x H bytes, row 0
- * first. It is given the number that the operation answered, the same W and H
- * and both images as they were left. The part stands at the start of the second
+ * first. It is given the number that the operation answered (no refusal: there
+ * is no part then), the same W and H and both images as they were left. The part stands at the start of the second
  * image if the number is even, of the first if it is odd; *image is set to 2
  * or 1 to say which. Answers the part's length in bytes, W x H. The part is
  * empty, and the answer 0, if W or H isn't 1 to 240 or that image has fewer
