@@ -1,5 +1,5 @@
 -- Document 01, "Frames": the result's cells, read from the last grid: (x − dx, y − dy) for dilation, (x + dx, y + dy) for erosion, (x, y) for opening and
--- closing. Lengths are counted from −15, as the fields of a place are.
+-- closing. Distances are counted from −15, as the fields of a place are.
 use mathlib.Core.Path.{_≡_}
 use mathlib.Core.Bool.{Bool}
 use mathlib.Core.List.{List}

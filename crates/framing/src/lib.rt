@@ -1,5 +1,4 @@
 // Putting a frame into a grid, and the single stage from one image into another: all grounds are tried before the first byte is written.
-ghost use mathlib.Core.Path.{_≡_};
 ghost use Rattle.grids.specs.Grid.{FramePut, Staged};
 use words::Answer;
 

@@ -155,9 +155,6 @@ module _ (v W H m : ℕ) (g : List ℕ) (low : v ≤ 1) (clean : T (not (badCell
       subst (λ l. T (not (badCell l))) (sym (once-is erode v W H m g))
       (cells-binary (W + 15) (H + 15) (over erode (maskPoints m) (grid v W H g)) (over-binary erode (maskPoints m) (grid v W H g) (grid-binary v W H g low clean)))
 
-  pub once-binary : (erode : Bool) (i : ℕ) → getD (once erode v W H m g) i 0 ≤ 1
-  once-binary erode i = bytes-binary 0 zero-le (once erode v W H m g) (once-clean erode) i
-
   pub once-dilation : (x y : ℕ) → x < W + 15 → y < H + 15 → (getD (once false v W H m g) (y * (W + 15) + x) 0 ≡ 1) ↔ (occupied (grid v W H g) ⊕ Mask m) (pos x, pos y)
   once-dilation x y h k =
       subst (λ n. (n ≡ 1) ↔ (occupied (grid v W H g) ⊕ Mask m) (pos x, pos y)) (sym (once-cell false v W H m g x y h k))

@@ -2,8 +2,6 @@
 // What it promises is one statement, Claim in claim/specs/Whole.
 use cleaning::Operation;
 use words::Answer;
-ghost use mathlib.Core.Path.{_≡_};
-ghost use lib.ListN.{length};
 ghost use Rattle.words.specs.Ground.{stated};
 ghost use Rattle.cleaning.specs.Cleaning.{Cleaned};
 ghost use Rattle.claim.specs.Whole.{Claim, handedFor, Lent, Steps};
