@@ -11,13 +11,13 @@ use lib.ListN.{length}
 use Rattle.plane.specs.Point.{Point, _+ᵖ_, negᵖ}
 use Rattle.plane.proofs.Algebra.{+ᵖ-origin}
 use Rattle.plane.proofs.Integer.{diff-ge, diff-lt}
+use Rattle.plane.proofs.Tests.{lt-or-le}
 use Rattle.words.specs.Word.{placeX, placeY}
 use Rattle.shapes.specs.Plan.{placed, planMasks, planOffset}
 use Rattle.grids.specs.Frame.{free, gridSize}
 use Rattle.grids.specs.Grid.{grid, put}
 use Rattle.grids.specs.Image.{cells}
 use Rattle.grids.proofs.Pictures.{view-starts}
-use Rattle.runs.proofs.Ranges.{lt-or-le}
 use Rattle.placing.specs.Placing.{cutOut, Cut}
 use Rattle.cleaning.specs.declared.Operation.{Operation}
 use Rattle.cleaning.specs.declared.Operation.the-variants.{Dilation, Erosion, Opening, Closing}

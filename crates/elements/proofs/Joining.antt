@@ -14,7 +14,6 @@ use Rattle.plane.proofs.Member.{In-append}
 use Rattle.rows.specs.Cells.{Same, At, Points}
 use Rattle.rows.specs.Leaves.{Either, Raised}
 use Rattle.extents.specs.Extents.{Least, column, row}
-use Rattle.rows.proofs.Fill.{below-or}
 use Rattle.rows.proofs.Sums.{Rows16}
 use Rattle.shapes.specs.Shape.{outOfRange}
 use Rattle.elements.specs.declared.Shape.{Shape}
@@ -23,6 +22,7 @@ use Rattle.elements.proofs.Ranges.{coordinate, coordinate-add, range-fl
 use Rattle.elements.proofs.Stands.{points-of, sound-cell, cells-sound}
 use Rattle.elements.proofs.Places.{at, raised-points}
 use Rattle.plane.proofs.Algebra.{≐-trans, ≐-sym}
+use Rattle.plane.proofs.Tests.{lt-or-le}
 use Rattle.elements.proofs.Made.{made-in}
 
 -- a cell's point in a shape, and its coordinates
@@ -59,7 +59,7 @@ module _ (a b : Shape) (wa : Rows16 (a .rows)) (wb : Rows16 (b .rows)) (SA : Sou
   )
 
   one-of : (k m n : ℕ) → k ≡ min m n → (k ≡ m) ⊎ (k ≡ n)
-  one-of k m n e = ⊎-elim (λ h. inl (omega arith)) (λ h. inr (omega arith)) (below-or m n)
+  one-of k m n e = ⊎-elim (λ h. inl (omega arith)) (λ h. inr (omega arith)) (lt-or-le m n)
 
   low-x : (q : Point) × In A q × (x-of q ≡ coordinate x)
   low-x = ⊎-elim (start a wa SA left-in .0) (start b wb SB right-in .0) (one-of x (a .x) (b .x) ex)

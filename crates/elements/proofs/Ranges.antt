@@ -15,9 +15,8 @@ use Rattle.plane.specs.Point.{Point, point, _+ᵖ_, _≐_}
 use Rattle.plane.proofs.Extents.{span-near, span-far}
 use Rattle.plane.proofs.Integer.{diff-ge, diff-lt}
 use Rattle.plane.proofs.Member.{any-no, no-any, In-map}
-use Rattle.plane.proofs.Tests.{not-or, not-ltb}
+use Rattle.plane.proofs.Tests.{not-or, not-ltb, lt-or-le}
 use Rattle.rows.specs.Cells.{Cells, Points}
-use Rattle.rows.proofs.Fill.{below-or}
 use Rattle.shapes.specs.Shape.{outOfRange, tooFar}
 use Rattle.shapes.proofs.Accepted.{sub-sub}
 
@@ -35,7 +34,7 @@ distance : (m : ℕ) → ((m ≤ 14) × (natAbs (coordinate m) ≡ 15 - m)) ⊎ 
 distance m = ⊎-elim
     (λ l. let e : suc (15 - suc m) ≡ 15 - m = omega arith in inl (omega arith, ap natAbs (diff-lt m 15 l) ∙ e))
     (λ l. inr (l, ap natAbs (diff-ge m 15 l)))
-    (below-or m 15)
+    (lt-or-le m 15)
 
 pub near-bound : (m : ℕ) → T (not (tooFar (coordinate m))) → m ≤ 30
 near-bound m t = let b = nltb→le 15 (natAbs (coordinate m)) t in ⊎-elim (λ d. let l = d .0 in omega arith) (λ d. let e = d .1 in omega arith) (distance m)
@@ -45,13 +44,13 @@ bound-near m h = not-ltb 15 (natAbs (coordinate m)) (⊎-elim (λ d. let e = d .
 
 -- two that are no more than 15 apart
 apart-bound : (m n : ℕ) → T (not (ltZ (pos 15) (pos m -ℤ pos n))) → m ≤ n + 15
-apart-bound m n t = ⊎-elim (λ l. omega arith) (λ l. let b = nltb→le 15 (m - n) (subst (λ z. T (not (ltZ (pos 15) z))) (diff-ge m n l) t) in omega arith) (below-or m n)
+apart-bound m n t = ⊎-elim (λ l. omega arith) (λ l. let b = nltb→le 15 (m - n) (subst (λ z. T (not (ltZ (pos 15) z))) (diff-ge m n l) t) in omega arith) (lt-or-le m n)
 
 bound-apart : (m n : ℕ) → m ≤ n + 15 → T (not (ltZ (pos 15) (pos m -ℤ pos n)))
 bound-apart m n h = ⊎-elim
     (λ l. subst (λ z. T (not (ltZ (pos 15) z))) (sym (diff-lt m n l)) tt)
     (λ l. subst (λ z. T (not (ltZ (pos 15) z))) (sym (diff-ge m n l)) (not-ltb 15 (m - n) (omega arith)))
-    (below-or m n)
+    (lt-or-le m n)
 
 -- ---- in range, along one coordinate
 

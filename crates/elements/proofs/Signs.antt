@@ -12,8 +12,7 @@ use mir.Syntax.{w32, w64}
 use mir.Val.{SFits, Fits, toZ, ofZ}
 use mir.ValLaws.{toZ-ofZ, toZ-pos}
 use Rattle.plane.proofs.Integer.{diff-ge, diff-lt}
-use Rattle.plane.proofs.Tests.{clash, T-dec}
-use Rattle.rows.proofs.Fill.{below-or}
+use Rattle.plane.proofs.Tests.{clash, T-dec, lt-or-le}
 use Rattle.shapes.specs.Shape.{tooFar}
 use Rattle.elements.specs.Standing.{Along}
 use Rattle.elements.proofs.Ranges.{coordinate, near-bound, bound-near}
@@ -24,7 +23,7 @@ mag-add x (pos n) = omega arith
 mag-add x (negsuc n) = ⊎-elim
     (λ l. subst (λ z. mag z ≤ x + n) (sym (diff-lt x (suc n) l)) (omega arith))
     (λ l. subst (λ z. mag z ≤ x + n) (sym (diff-ge x (suc n) l)) (omega arith))
-    (below-or x (suc n))
+    (lt-or-le x (suc n))
 
 module _ (x : ℕ) (d : ℤ) (hx : Fits w32 x) (hd : SFits w32 d) where
   -- the integer that the sum in 64 bits is

@@ -15,10 +15,10 @@ use Rattle.plane.proofs.Algebra.{≐-trans, ≐-sym}
 use Rattle.plane.proofs.Extents.{least-at}
 use Rattle.plane.proofs.Integer.{diff-ge, diff-lt, ≤ℤ-to}
 use Rattle.plane.proofs.Member.{In-map}
+use Rattle.plane.proofs.Tests.{lt-or-le}
 use Rattle.rows.specs.Cells.{Same, At, Points}
 use Rattle.rows.specs.Leaves.{Lowered, Raised}
 use Rattle.extents.specs.Extents.{Least, row, column}
-use Rattle.rows.proofs.Fill.{below-or}
 use Rattle.rows.proofs.Sums.{Rows16, in-x, in-y}
 use Rattle.shapes.specs.Listed.{below, leastAnchor}
 use Rattle.elements.specs.declared.Shape.{Shape}
@@ -84,7 +84,7 @@ below-at : (x : ℕ) → below (coordinate x) ≡ 15 - x
 below-at x = ⊎-elim
     (λ l. ap below (diff-lt x 15 l) ∙ omega arith)
     (λ l. ap below (diff-ge x 15 l) ∙ omega arith)
-    (below-or x 15)
+    (lt-or-le x 15)
 
 module _ (s : Shape) (w : Rows16 (s .rows)) (S : Sound s) where
   -- the least x and the least y are those of the place

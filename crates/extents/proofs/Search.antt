@@ -7,10 +7,10 @@ use Prim.Native.Nat.{ℕ, _+_, _≤_, _<_}
 use native.Mathlib.Omega.{arith}
 use lib.Bits.{bitOr}
 use lib.ListN.{getD}
+use Rattle.plane.proofs.Tests.{lt-or-le}
 use Rattle.rows.specs.Cells.{Cells, At, bit}
 use Rattle.extents.specs.Extents.{NoCell, SomeCell, Least, Greatest, FirstOf, LastOf, Columns, row, column}
 use Rattle.rows.proofs.RowBits.{no-bit}
-use Rattle.rows.proofs.Fill.{below-or}
 use Rattle.rows.proofs.Shifts.{or-on, on-or-l, on-or-r}
 use Rattle.rows.proofs.Sums.{Rows16, in-x, in-y, last-or}
 
@@ -32,7 +32,7 @@ module _ (number : ℕ → ℕ → ℕ) (X : Cells) where
   from-none = record { from = λ x y h. omega arith }
 
   pub from-more : (n : ℕ) → From n → Clear n → From (n + 1)
-  from-more n p q = record { from = λ x y h. let l = p .from x y h in ⊎-elim (λ w. absurd (q .clear x y h (omega arith))) (λ w. w) (below-or (number x y) (n + 1)) }
+  from-more n p q = record { from = λ x y h. let l = p .from x y h in ⊎-elim (λ w. absurd (q .clear x y h (omega arith))) (λ w. w) (lt-or-le (number x y) (n + 1)) }
 
   pub from-found : (n x y : ℕ) → From n → X x y → number x y ≡ n → FirstOf number X n
   from-found n x y p h e = inl (record { x = x; y = y; cell = h; at = e; all = p .from })
@@ -41,7 +41,7 @@ module _ (number : ℕ → ℕ → ℕ) (X : Cells) where
   from-done n l p f = inr (record { no = λ x y h. let u = p .from x y h in let v = f x y h in omega arith }, λ i. 16)
 
   pub below-less : (n m : ℕ) → m + 1 ≡ n → Below n → Clear m → Below m
-  below-less n m e p q = record { below = λ x y h. let l = p .below x y h in ⊎-elim (λ w. w) (λ w. absurd (q .clear x y h (omega arith))) (below-or (number x y) m) }
+  below-less n m e p q = record { below = λ x y h. let l = p .below x y h in ⊎-elim (λ w. w) (λ w. absurd (q .clear x y h (omega arith))) (lt-or-le (number x y) m) }
 
   pub below-found : (n m x y : ℕ) → m + 1 ≡ n → Below n → X x y → number x y ≡ m → LastOf number X m
   below-found n m x y k p h e = inl (record { x = x; y = y; cell = h; at = e; all = λ u v g. let l = p .below u v g in omega arith })

@@ -1,18 +1,36 @@
--- What a word of each kind holds, and how large its fields are.
-use mathlib.Core.Path.{_≡_, refl, subst}
+-- What a reader's item is as a word, what a word of each kind holds, and how large its fields are.
+use mathlib.Core.Path.{_≡_, refl, sym, ap, subst, _∙_}
+use mathlib.Core.Logic.{⊎-elim}
 use mathlib.Core.Bool.{Bool, true, false}
-use mathlib.Core.List.{[], _∷_}
-use Prim.Native.Nat.{ℕ, _/_, _%_, _^_, _<_}
+use mathlib.Core.List.{List, [], _∷_}
+use Prim.Native.Nat.{ℕ, _/_, _%_, _^_, _<_, _≤_}
 use native.Mathlib.Omega.{arith}
 use lib.Dec.{eqb}
+use lib.ListN.{length, getD, List·getD-eq-default}
 use denote.Enum.Declared.{tagOf}
 use types.Run.{OneOf, miss}
+use Rattle.plane.proofs.Tests.{lt-or-le}
 use Rattle.words.specs.Read.{wordOf, pick}
 use Rattle.words.specs.Word.{kind, anchorKind, rowKind, headKind, placeKind, stageKind, anchorX, anchorY, rowY, rowBits, headCount, placeX, placeY, stageMask}
 use Rattle.words.specs.declared.Word.{Word}
 use Rattle.words.proofs.Word.{the-type}
 use Rattle.words.specs.declared.Word.the-variants.{Anchor, Row, Head, Place, Stage, Unused}
+use Rattle.readers.specs.Cursor.{itemAt}
+use Rattle.readers.specs.declared.Item.{Item}
+use Rattle.readers.specs.declared.Item.the-variants.{Found, End}
+use Rattle.readers.proofs.Positions.{item-here, item-end}
 use Rattle.lists.specs.Held.{cellsIn, anchorIn, placeIn, maskIn}
+
+-- the word that an item is; the end is one of no used kind, as is the word 0, which stands for what is past a list
+abbrev pub wordIn : Item → Word
+wordIn (Found v) = v
+wordIn End = Unused 0
+
+pub word-in : (ws : List ℕ) (at : ℕ) → wordIn (itemAt ws at) ≡ wordOf (getD ws at 0)
+word-in ws at = ⊎-elim
+    (λ (h : at < length ws). ap wordIn (item-here ws at h))
+    (λ (h : length ws ≤ at). ap wordIn (item-end ws at h) ∙ ap wordOf (sym (List·getD-eq-default ws 0 h)))
+    (lt-or-le at (length ws))
 
 -- a word that is none of a kind holds nothing of that kind
 pub no-anchor : (v : Word) → OneOf (1 ∷ 2 ∷ 3 ∷ 4 ∷ 5 ∷ []) (tagOf the-type v) → anchorIn v ≡ (0, 0)

@@ -11,11 +11,10 @@ use Rattle.plane.specs.Lists.{In, keep, upTo, bits, packed}
 use Rattle.plane.specs.Point.{Point, Cell, point, _-ᵖ_}
 use Rattle.plane.proofs.Bits.{packed-below, bits-packed}
 use Rattle.plane.proofs.Member.{In-any, In-keep, In-upTo, upTo-In}
-use Rattle.plane.proofs.Tests.{eq-eqb, same-test}
+use Rattle.plane.proofs.Tests.{eq-eqb, same-test, lt-or-le}
 use Rattle.words.specs.Word.{anchorWord, rowWord}
 use Rattle.rows.specs.Cells.{At, bit}
 use Rattle.rows.proofs.Sums.{row-cell}
-use Rattle.rows.proofs.Fill.{below-or}
 use Rattle.rows.proofs.RowBits.{bits-ext, no-bit}
 use Rattle.rows.proofs.Sums.{Rows16, bit-same}
 use Rattle.shapes.specs.Listed.{leastAnchor, columnSet, rowOf, hasCells, listed}
@@ -65,7 +64,7 @@ module _ (A : List Point) (a : Cell) (rows : List ℕ) (known : Rows16 rows)
       zero-of n u = omega arith
 
       some : (n x : ℕ) → bit n x ≡ 1 → 0 < n
-      some n x h = ⊎-elim (λ u. absurd (no-bit x (subst (λ k. bit k x ≡ 1) (zero-of n u) h))) (λ u. u) (below-or n 1)
+      some n x h = ⊎-elim (λ u. absurd (no-bit x (subst (λ k. bit k x ≡ 1) (zero-of n u) h))) (λ u. u) (lt-or-le n 1)
 
   row-list : rowWords rows ≡ map (rowOf A a) (keep (hasCells A a) (upTo 16))
   row-list =

@@ -5,11 +5,11 @@ use mathlib.Core.List.{List, [], _∷_, _++_}
 use Prim.Native.Nat.{ℕ, zero, suc, _+_, _%_, min, _≤_, _<_}
 use native.Mathlib.Omega.{arith}
 use lib.ListN.{length, getD, replicate}
+use Rattle.plane.proofs.Tests.{lt-or-le}
 use Rattle.words.specs.Read.{wordOf}
 use Rattle.words.specs.declared.Word.the-variants.{Stage}
 use Rattle.rows.specs.Cells.{Same, At, AtMask, AtOrigin, bit}
 use Rattle.rows.specs.Leaves.{SumOf}
-use Rattle.rows.proofs.Fill.{below-or}
 use Rattle.rows.proofs.RowBits.{bit-in, no-bit}
 use Rattle.rows.proofs.Sums.{zero-at}
 use Rattle.lists.specs.Held.{maskIn, masksFrom, heldMasks, SumRows, WithStage}
@@ -78,4 +78,4 @@ unfolding masksFrom
 sum-end ws i r a b p = ⊎-elim
     (λ h. let f = flat-end (λ w. maskIn (wordOf w)) ws in subst (λ ms. SumRows ms r) (f i (omega arith) ∙ sym (f 2 (omega arith))) p)
     (λ h. let e : i ≡ 2 = omega arith in subst (λ k. SumRows (masksFrom k ws) r) e p)
-    (below-or (length ws) 2)
+    (lt-or-le (length ws) 2)

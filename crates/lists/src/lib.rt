@@ -1,10 +1,12 @@
 // Words into rows of bits and back: the anchor and the cells of a shape list, the place and the sum of a plan list, and the words of a shape list.
-// Any list is read: a word of another kind than its place calls for holds nothing.
+// Any list is read, word by word through the reader: a word of another kind than its place calls for holds nothing, nor does the end.
 ghost use mathlib.Core.Path.{_≡_};
+ghost use lib.ListN.{getD};
 ghost use Rattle.words.specs.Read.{wordOf};
 ghost use Rattle.rows.specs.Cells.{Same, At};
-ghost use Rattle.lists.specs.Held.{anchorIn, placeIn, heldAnchor, heldPlace, heldCells, heldMasks};
+ghost use Rattle.lists.specs.Held.{heldAnchor, heldPlace, heldCells, heldMasks};
 ghost use Rattle.lists.specs.Held.{CellsOf, WithWord, WithStage, SumRows, shapeWords, WordsWritten};
+use readers::Item;
 use words::Word;
 
 // Two numbers of a word.
@@ -13,53 +15,44 @@ pub struct Pair {
     pub y: u32,
 }
 
-// The numbers of an anchor; 0 and 0 of another word.
-fn anchor_of(w: u32) -> Pair
-    ensures { λ r. ⌜ (r .x ≡ anchorIn (wordOf w) .0) × (r .y ≡ anchorIn (wordOf w) .1) ⌝ }
+// The word at a position, as the reader finds it there; past the end one of no used kind.
+fn word_at(ws: &[u32], at: usize) -> Word
+    ensures { λ r. ⌜ r ≡ wordOf (getD (now (ws .entry)) at 0) ⌝ }
 {
-    let word = words::read(w);
+    let item = readers::read_at(ws, at);
+    match item {
+        Item::Found(word) => word,
+        Item::End => Word::Unused(0),
+    }
+}
+
+// The anchor of a shape list, its first word; 0 and 0 where that is none.
+pub fn read_anchor(ws: &[u32]) -> Pair
+    ensures { λ r. ⌜ (r .x ≡ heldAnchor (now (ws .entry)) .0) × (r .y ≡ heldAnchor (now (ws .entry)) .1) ⌝ }
+{
+    let word = word_at(ws, 0);
     match word {
         Word::Anchor { ax, ay } => Pair { x: ax, y: ay },
         _ => Pair { x: 0, y: 0 },
     }
 }
 
-// The numbers of a place; 0 and 0 of another word.
-fn place_of(w: u32) -> Pair
-    ensures { λ r. ⌜ (r .x ≡ placeIn (wordOf w) .0) × (r .y ≡ placeIn (wordOf w) .1) ⌝ }
+// The place of a plan list, its second word; 0 and 0 where that is none.
+pub fn read_place(ws: &[u32]) -> Pair
+    ensures { λ r. ⌜ (r .x ≡ heldPlace (now (ws .entry)) .0) × (r .y ≡ heldPlace (now (ws .entry)) .1) ⌝ }
 {
-    let word = words::read(w);
+    let word = word_at(ws, 1);
     match word {
         Word::Place { x, y } => Pair { x: x, y: y },
         _ => Pair { x: 0, y: 0 },
     }
 }
 
-// The anchor of a shape list, its first word.
-pub fn read_anchor(ws: &[u32]) -> Pair
-    ensures { λ r. ⌜ (r .x ≡ heldAnchor (now (ws .entry)) .0) × (r .y ≡ heldAnchor (now (ws .entry)) .1) ⌝ }
+// The rows z with the cells of the word at a position. A row may stand twice in a damaged list.
+fn with_word(z: [u16; 16], ws: &[u32], at: usize) -> [u16; 16]
+    ensures { λ r. ⌜ WithWord z (getD (now (ws .entry)) at 0) r ⌝ }
 {
-    if ws.len() < 1 {
-        return Pair { x: 0, y: 0 };
-    }
-    anchor_of(ws[0])
-}
-
-// The place of a plan list, its second word.
-pub fn read_place(ws: &[u32]) -> Pair
-    ensures { λ r. ⌜ (r .x ≡ heldPlace (now (ws .entry)) .0) × (r .y ≡ heldPlace (now (ws .entry)) .1) ⌝ }
-{
-    if ws.len() < 2 {
-        return Pair { x: 0, y: 0 };
-    }
-    place_of(ws[1])
-}
-
-// The rows z with the cells of the word w. A row may stand twice in a damaged list.
-fn with_word(z: [u16; 16], w: u32) -> [u16; 16]
-    ensures { λ r. ⌜ WithWord z w r ⌝ }
-{
-    let word = words::read(w);
+    let word = word_at(ws, at);
     match word {
         Word::Row { y, columns } => {
             let mut r = z;
@@ -78,18 +71,18 @@ pub fn read_rows(ws: &[u32]) -> [u16; 16]
     let mut r = [0u16; 16];
     let mut i: usize = 1;
     while i < ws.len() {
-        let next = with_word(r, ws[i]);
+        let next = with_word(r, ws, i);
         r = next;
         i += 1;
     }
     r
 }
 
-// The sum of the rows z and the mask of the word w.
-fn with_stage(z: [u16; 16], w: u32) -> [u16; 16]
-    ensures { λ r. ⌜ WithStage z w r ⌝ }
+// The sum of the rows z and the mask of the word at a position.
+fn with_stage(z: [u16; 16], ws: &[u32], at: usize) -> [u16; 16]
+    ensures { λ r. ⌜ WithStage z (getD (now (ws .entry)) at 0) r ⌝ }
 {
-    let word = words::read(w);
+    let word = word_at(ws, at);
     match word {
         Word::Stage(m) => {
             let mask = rows::mask_rows((m % 512) as u16);
@@ -108,7 +101,7 @@ pub fn plan_rows(ws: &[u32]) -> [u16; 16]
     let mut i: usize = ws.len();
     while i > 2 {
         i -= 1;
-        let next = with_stage(r, ws[i]);
+        let next = with_stage(r, ws, i);
         r = next;
     }
     r

@@ -5,6 +5,7 @@ use mathlib.Core.Bool.{Bool, true, false, not, cond, _&&_, _||_}
 use Prim.Native.Nat.{ℕ, _≤_, _<_}
 use native.Mathlib.Omega.{arith}
 use lib.Dec.{T, leb, ltb, eqb, eqb-refl, leb→le, ltb→lt, not-T}
+use borrow.Author.Tests.{ltb-true, ltb-false}
 
 pub T-and : (a b : Bool) → T (a && b) ↔ (T a × T b)
 T-and true b = (λ t. (tt, t), λ t. t .1)
@@ -81,3 +82,11 @@ or-first a b e = ap (λ x. x || b) e
 pub or-none : (a b : Bool) → (a || b) ≡ false → (a ≡ false) × (b ≡ false)
 or-none true b e = absurd (subst T e tt)
 or-none false b e = (refl, e)
+
+-- a number is below another, or it is not
+pub lt-or-le : (a b : ℕ) → (a < b) ⊎ (b ≤ a)
+lt-or-le a b = on (ltb a b) refl
+  where
+    on : (t : Bool) → ltb a b ≡ t → (a < b) ⊎ (b ≤ a)
+    on true e = inl (ltb-true a b e)
+    on false e = inr (ltb-false a b e)

@@ -1,17 +1,12 @@
 -- A loop that sets the elements of a list from j on, one a turn: those passed are f of their index, and the others as they were.
 use mathlib.Core.Path.{_≡_, sym, ap, subst, _∙_}
-use mathlib.Core.Logic.{_⊎_, inl, inr, ⊎-elim}
+use mathlib.Core.Logic.{⊎-elim}
 use mathlib.Core.List.{List}
-use Prim.Native.Nat.{ℕ, zero, suc, _+_, _≤_, _<_}
+use Prim.Native.Nat.{ℕ, _+_, _≤_, _<_}
 use native.Mathlib.Omega.{arith}
 use native.Mathlib.Nat.{eq-or-lt-of-le}
 use lib.ListN.{length, getD, set, length-set}
 use lib.Seq.{getD-set-same, getD-set-other}
-
-pub below-or : (m n : ℕ) → (m < n) ⊎ (n ≤ m)
-below-or m zero = inr (omega arith)
-below-or zero (suc n) = inl (omega arith)
-below-or (suc m) (suc n) = ⊎-elim (λ w. inl (omega arith)) (λ w. inr (omega arith)) (below-or m n)
 
 -- r has f from j to y, and g before and after
 pub record Filled (f g : ℕ → ℕ) (j y : ℕ) (r : List ℕ) : Type 0 where

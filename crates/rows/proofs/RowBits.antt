@@ -6,8 +6,8 @@ use native.Mathlib.Omega.{arith}
 use native.Mathlib.Nat.{mul-div-mul-right, mul-assoc, mul-mod-left, div-eq-of-lt, lt-of-lt-of-le, pow-suc}
 use lib.Bits.{bitAnd, bitOr, and-shr, or-shr, and-step, or-step}
 use lib.Pow.{pow-pos, pow-mono, pow-add, field, shr-shr, shl-shr, mod-mod-pow}
+use Rattle.plane.proofs.Tests.{lt-or-le}
 use Rattle.rows.specs.Cells.{bit}
-use Rattle.rows.proofs.Fill.{below-or}
 
 or-mod2 : (p q : ℕ) → bitOr p q % 2 ≡ max (p % 2) (q % 2)
 or-mod2 p q = omega (arith, or-step p q)
@@ -56,7 +56,7 @@ pub bit-past : (k a x : ℕ) → a < 2 ^ k → k ≤ x → bit a x ≡ 0
 bit-past k a x p h = ap (λ (q : ℕ). q % 2) (div-eq-of-lt (lt-of-lt-of-le p (pow-mono h)))
 
 pub bit-in : (k n x : ℕ) → n < 2 ^ k → bit n x ≡ 1 → x < k
-bit-in k n x l h = ⊎-elim (λ w. w) (λ w. absurd (omega (arith, bit-past k n x l w))) (below-or x k)
+bit-in k n x l h = ⊎-elim (λ w. w) (λ w. absurd (omega (arith, bit-past k n x l w))) (lt-or-le x k)
 
 pub no-bit : (x : ℕ) → bit 0 x ≡ 1 → ⊥
 no-bit x h = omega (arith, bit-in 0 0 x (pow-pos 0) h)

@@ -7,13 +7,14 @@ use native.Mathlib.Omega.{arith}
 use lib.Bits.{bitAnd, bitOr, and-zero-r}
 use lib.ListN.{length, getD, List·getD-eq-default}
 use native.Mathlib.Nat.{add-comm, zero-div}
+use Rattle.plane.proofs.Tests.{lt-or-le}
 use Rattle.rows.specs.Cells.{bit}
 use Rattle.rows.specs.Leaves.{Onto, Under}
 use Rattle.rows.proofs.RowBits.{bit-or, bit-and, bit-shr, bit-cut, bit-shl, bit-shl-low, bit-in, no-bit}
-use Rattle.rows.proofs.Fill.{Filled, below-or}
+use Rattle.rows.proofs.Fill.{Filled}
 
 max-one : (p q : ℕ) → max p q ≡ 1 → (p ≡ 1) ⊎ (q ≡ 1)
-max-one p q h = ⊎-elim (λ w. inr (omega arith)) (λ w. inl (omega arith)) (below-or p 1)
+max-one p q h = ⊎-elim (λ w. inr (omega arith)) (λ w. inl (omega arith)) (lt-or-le p 1)
 
 pub or-on : (p q x : ℕ) → bit (bitOr p q) x ≡ 1 → (bit p x ≡ 1) ⊎ (bit q x ≡ 1)
 or-on p q x h = max-one (bit p x) (bit q x) (sym (bit-or p q x) ∙ h)
@@ -38,7 +39,7 @@ pub on-shl : (n i x : ℕ) → bit n x ≡ 1 → x + i < 16 → bit (n * 2 ^ i %
 on-shl n i x h l = bit-cut (n * 2 ^ i) 16 (x + i) l ∙ bit-shl n i x ∙ h
 
 shl-in : (n i x : ℕ) → bit (n * 2 ^ i) x ≡ 1 → i ≤ x
-shl-in n i x h = ⊎-elim (λ w. absurd (omega (arith, bit-shl-low n i x w))) (λ w. w) (below-or x i)
+shl-in n i x h = ⊎-elim (λ w. absurd (omega (arith, bit-shl-low n i x w))) (λ w. w) (lt-or-le x i)
 
 pub shl-on : (n i x : ℕ) → bit (n * 2 ^ i % 65536) x ≡ 1 → (i ≤ x) × (bit n (x - i) ≡ 1)
 shl-on n i x h =
@@ -59,8 +60,8 @@ module _ (z a : List ℕ) (i j : ℕ) where
     row-at : (y : ℕ) → ((j ≤ y) × ((y < 16) × (getD r y 0 ≡ ored y))) ⊎ (getD r y 0 ≡ was z y)
     row-at y = ⊎-elim
         (λ w. inr (h .before y w))
-        (λ w. ⊎-elim (λ v. inl (w, (v, h .inside y w v))) (λ v. inr (h .after y v)) (below-or y 16))
-        (below-or y j)
+        (λ w. ⊎-elim (λ v. inl (w, (v, h .inside y w v))) (λ v. inr (h .after y v)) (lt-or-le y 16))
+        (lt-or-le y j)
 
     pub onto-made : Onto z a i j r
     onto-made = record {
@@ -93,7 +94,7 @@ module _ (z t : List ℕ) (i j : ℕ) where
     and-at y = ⊎-elim
         (λ v. inl (v, h .inside y (omega arith) v))
         (λ v. let e : getD z y 0 ≡ 0 = List·getD-eq-default z 0 (omega arith) in inr (e, h .after y v ∙ e))
-        (below-or y 16)
+        (lt-or-le y 16)
 
     pub under-made : Under z t i j r
     under-made = record {

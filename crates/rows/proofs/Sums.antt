@@ -8,10 +8,10 @@ use native.Mathlib.Nat.{eq-or-lt-of-le, pow-suc, div-lt-iff-lt-mul}
 use native.Mathlib.Numerals.{add-one}
 use lib.ListN.{length, getD, replicate, getD-replicate, List·getD-eq-default}
 use lib.Pow.{pow-pos, ones-split, high, ones-lt}
+use Rattle.plane.proofs.Tests.{lt-or-le}
 use Rattle.rows.specs.Cells.{Same, bit, At}
 use Rattle.rows.specs.Leaves.{Onto, Under, RowSum, SumTo, SumOf, RowResidue, ResidueTo, ResidueOf}
 use Rattle.rows.proofs.RowBits.{bits-ext, bit-in, no-bit, bit-shr}
-use Rattle.rows.proofs.Fill.{below-or}
 
 pub last-or : (q n : ℕ) → q < n + 1 → (q ≡ n) ⊎ (q < n)
 last-or q n h = eq-or-lt-of-le (omega arith)
@@ -27,7 +27,7 @@ in-x a w x y h = bit-in 16 (getD a y 0) x (w .words y) h
 pub in-y : (a : List ℕ) → Rows16 a → (x y : ℕ) → At a x y → y < 16
 in-y a w x y h = ⊎-elim (λ v. v)
     (λ v. absurd (no-bit x (ap (λ (n : ℕ). bit n x) (sym (List·getD-eq-default a 0 (subst (λ (k : ℕ). k ≤ y) (sym (w .rows)) v))) ∙ h)))
-    (below-or y 16)
+    (lt-or-le y 16)
 
 -- a word that is not 0 has a bit
 bit-of : (k n : ℕ) → n < 2 ^ k → (n ≡ 0 → ⊥) → (x : ℕ) × (bit n x ≡ 1)
@@ -37,7 +37,7 @@ bit-of (suc k) n l f = ⊎-elim
     let g = bit-of k (n / 2) (omega arith) (λ z. f (omega arith)) in
     (1 + g .0, sym (bit-shr n 1 (g .0)) ∙ g .1))
     (λ w. (0, omega arith))
-    (below-or (n % 2) 1)
+    (lt-or-le (n % 2) 1)
 
 pub row-cell : (a : List ℕ) → Rows16 a → (y : ℕ) → (getD a y 0 ≡ 0 → ⊥) → (x : ℕ) × At a x y
 row-cell a w y f = bit-of 16 (getD a y 0) (w .words y) f
@@ -197,9 +197,9 @@ module _ (t b : List ℕ) where
 -- ---- the same cells
 pub bit-same : (p q x : ℕ) → (bit p x ≡ 1 → bit q x ≡ 1) → (bit q x ≡ 1 → bit p x ≡ 1) → bit p x ≡ bit q x
 bit-same p q x f g = ⊎-elim
-    (λ u. ⊎-elim (λ v. omega arith) (λ v. let w : bit p x ≡ 1 = g (omega arith) in omega arith) (below-or (bit q x) 1))
+    (λ u. ⊎-elim (λ v. omega arith) (λ v. let w : bit p x ≡ 1 = g (omega arith) in omega arith) (lt-or-le (bit q x) 1))
     (λ u. let w : bit q x ≡ 1 = f (omega arith) in omega arith)
-    (below-or (bit p x) 1)
+    (lt-or-le (bit p x) 1)
 
 pub rows-differ : (a b : List ℕ) → Rows16 a → Rows16 b → (q : ℕ) → (getD a q 0 ≡ getD b q 0 → ⊥) → Same (At a) (At b) → ⊥
 rows-differ a b wa wb q n s = n (bits-ext 16 (getD a q 0) (getD b q 0) (wa .words q) (wb .words q) (λ x l. bit-same (getD a q 0) (getD b q 0) x (s .to x q) (s .from x q)))

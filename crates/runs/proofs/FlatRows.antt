@@ -4,7 +4,7 @@ use mathlib.Core.Logic.{⊎-elim}
 use Prim.Native.Nat.{ℕ, _+_, _*_, _<_, _≤_}
 use native.Mathlib.Nat.{mul-le-mul-right, add-mul, mul-comm}
 use native.Mathlib.Omega.{arith}
-use Rattle.runs.proofs.Ranges.{lt-or-le}
+use Rattle.plane.proofs.Tests.{lt-or-le}
 
 -- a row ends before a later one begins
 pub rows-apart : (w y y' : ℕ) → y < y' → y * w + w ≤ y' * w

@@ -1,24 +1,14 @@
 -- Laws of `Ranged`: what a loop, a part and a chain of changes do to the cells of an image. They hold at any type of cell.
 use mathlib.Core.Path.{_≡_, refl, sym, ap, _∙_, subst}
-use mathlib.Core.Logic.{_⊎_, inl, inr, ⊎-elim}
-use mathlib.Core.Bool.{Bool, true, false}
+use mathlib.Core.Logic.{⊎-elim}
 use mathlib.Core.List.{List, _++_}
 use Prim.Native.Nat.{ℕ, _+_, _-_, _<_, _≤_, min}
 use native.Mathlib.Omega.{arith}
 use lib.ListN.{length, take, drop, getD, set, length-set, List·getD-append}
 use lib.Seq.{getD-set-same, getD-set-other, getD-take, getD-drop, getD-append-add, length-take-le}
 use borrow.Rule.Slice.PartMut.{midOf, postOf, putMid, same-len-mid, mid-len}
-use lib.Dec.{ltb}
-use borrow.Author.Tests.{ltb-true, ltb-false}
+use Rattle.plane.proofs.Tests.{lt-or-le}
 use Rattle.runs.specs.Runs.{Ranged}
-
-split-on : (a b : ℕ) (t : Bool) → ltb a b ≡ t → (a < b) ⊎ (b ≤ a)
-split-on a b true e = inl (ltb-true a b e)
-split-on a b false e = inr (ltb-false a b e)
-
--- either a is below b or it is not
-pub lt-or-le : (a b : ℕ) → (a < b) ⊎ (b ≤ a)
-lt-or-le a b = split-on a b (ltb a b) refl
 
 module _ {A : Type 0} (z : A) where
   -- the cells of a part

@@ -9,10 +9,10 @@ use lib.IntN.{pos}
 use lib.ListN.{length, getD, drop, length-append, length-drop, List·getD-append}
 use lib.Seq.{ext-getD, getD-append-add, getD-drop}
 use Rattle.plane.specs.Point.{Point}
+use Rattle.plane.proofs.Tests.{lt-or-le}
 use Rattle.grids.specs.Image.{cells}
 use Rattle.grids.proofs.Pictures.{getD-cells, length-cells}
 use Rattle.runs.specs.Runs.{Laid}
-use Rattle.runs.proofs.Ranges.{lt-or-le}
 
 -- within a list it does not matter what is read past its end
 pub getD-any : (l : List ℕ) (n a b : ℕ) → n < length l → getD l n a ≡ getD l n b

@@ -10,7 +10,7 @@ use lib.Dec.{T, ltb}
 use lib.ListN.{length, getD, replicate}
 use Rattle.plane.specs.Lists.{all}
 use Rattle.plane.proofs.Member.{all-In, In-all}
-use Rattle.plane.proofs.Tests.{not-or, not-ltb}
+use Rattle.plane.proofs.Tests.{not-or, not-ltb, lt-or-le}
 use Rattle.masks.specs.Chain.{falling}
 use Rattle.masks.specs.Mask.{stage}
 use Rattle.masks.proofs.Bounds.{total}
@@ -18,7 +18,6 @@ use Rattle.masks.proofs.Order.{not-before-tied}
 use Rattle.masks.proofs.Reduce.{in-order}
 use Rattle.stages.specs.Reach.{reach}
 use Rattle.rows.specs.Cells.{Cells, Same, Sum, At, AtOrigin, AtSum, bit}
-use Rattle.rows.proofs.Fill.{below-or}
 use Rattle.rows.proofs.RowBits.{bit-past, no-bit}
 use Rattle.rows.proofs.Sums.{Rows16, in-x, in-y, zero-at}
 use Rattle.extents.specs.Extents.{Greatest, NoCell, row, column}
@@ -35,7 +34,7 @@ abbrev pub start : List ℕ
 start = 1 ∷ replicate 15 0
 
 first-bit : (x : ℕ) → bit 1 x ≡ 1 → x ≡ 0
-first-bit x h = ⊎-elim (λ w. omega arith) (λ w. absurd (omega (arith, bit-past 1 1 x (omega arith) w))) (below-or x 1)
+first-bit x h = ⊎-elim (λ w. omega arith) (λ w. absurd (omega (arith, bit-past 1 1 x (omega arith) w))) (lt-or-le x 1)
 
 start-to : (x y : ℕ) → At start x y → AtOrigin x y
 start-to x zero h = record { at-x = first-bit x h; at-y = refl }
@@ -119,7 +118,7 @@ module _ (permitted : ℕ → Bool) (sub : (m : ℕ) → T (permitted m) → T (
         first = λ ns S t. ⊎-elim
             (λ w. absurd (below ns S t w))
             (λ w. not-before-tied L ns (subst (λ (n : ℕ). n ≤ length ns) (sym (length-chosen masks k)) w) (λ q. a .first e ns (q ∙ length-chosen masks k) (completes ns S t)))
-            (below-or (length ns) k);
+            (lt-or-le (length ns) k);
       };
       none = λ f. absurd (true≢false f);
       empty = λ f. absurd (true≢false f);

@@ -11,12 +11,11 @@ use lib.ListN.{getD, set, length-set, replicate}
 use lib.Seq.{getD-set-same, getD-set-other}
 use Rattle.plane.specs.Lists.{all, In}
 use Rattle.plane.proofs.Member.{all-In, In-all}
-use Rattle.plane.proofs.Tests.{T-dec, clash, eq-eqb}
+use Rattle.plane.proofs.Tests.{T-dec, clash, eq-eqb, lt-or-le}
 use Rattle.masks.specs.Mask.{stage}
 use Rattle.masks.proofs.Cells.{stage-below}
 use Rattle.rows.specs.Cells.{Cells, Same, Sum, At, AtMask, AtSum}
 use Rattle.rows.specs.Leaves.{SumOf, ResidueOf}
-use Rattle.rows.proofs.Fill.{below-or}
 use Rattle.rows.proofs.Sums.{Rows16, in-x, in-y, zero-at}
 use Rattle.search.specs.Plans.{SumsTo}
 use Rattle.search.specs.Tree.{tries, Marks, Mark, Marked}
@@ -85,7 +84,7 @@ module _ (permitted : ℕ → Bool) (A : Cells) where
     pub tried-permitted : (m : ℕ) → T (tries marks m) → T (permitted m)
     tried-permitted m t =
         let e = eqb→eq (getD marks m 0) 1 t in
-        ⊎-elim (λ w. M .at m w .tried e) (λ w. let z = M .rest m w in absurd (omega arith)) (below-or m 512)
+        ⊎-elim (λ w. M .at m w .tried e) (λ w. let z = M .rest m w in absurd (omega arith)) (lt-or-le m 512)
 
     pub marks-of : Marks marks
     marks-of = record { room = M .room; stages = λ m t. sub m (tried-permitted m t) }

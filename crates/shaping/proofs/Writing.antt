@@ -11,12 +11,12 @@ use borrow.Author.Tests.{lt-ltb, le-ltb}
 use Rattle.plane.specs.Lists.{In}
 use Rattle.plane.specs.Point.{Point, Cell, point, negᵖ, _-ᵖ_, _≐_}
 use Rattle.plane.proofs.Member.{In-map}
+use Rattle.plane.proofs.Tests.{lt-or-le}
 use Rattle.words.specs.declared.Answer.the-variants.{Done, Refused}
 use Rattle.words.specs.declared.Ground.the-variants.{OutOfRange, OutputLength}
 use Rattle.words.specs.Ground.{firstOf, result}
 use Rattle.rows.specs.Cells.{At}
 use Rattle.rows.proofs.Bridge.{point-once}
-use Rattle.rows.proofs.Fill.{below-or}
 use Rattle.rows.proofs.Sums.{Rows16, in-x, in-y}
 use Rattle.shapes.specs.Calls.{ListAnswered}
 use Rattle.shapes.specs.Listed.{listed, leastAnchor}
@@ -86,11 +86,11 @@ module _ (s : Shape) (out : List ℕ) where
         (λ l. let t = tests-are true true f (lt-ltb (length out) 17 l) in
         record { refused = λ _. (ap (λ n. (n, 0)) (sym t), w .short l .1); done = λ z. absurd (omega (arith, sym t ∙ z)) })
         (λ l. absurd (let k = w .words l .0 in omega arith))
-        (below-or (length out) 17)
+        (lt-or-le (length out) 17)
 
     pub write-done : n ≢ 0 → ListAnswered (writingTests s out) (pointsOf s) out (Done n) out′
     write-done z = ⊎-elim
         (λ l. absurd (z (w .short l .0)))
         (λ l. let t = tests-are true false f (le-ltb (length out) 17 l) in
         record { refused = λ z. absurd (z t); done = λ _. record { answer = ap result (w .words l .0); words = w .words l .1 } })
-        (below-or (length out) 17)
+        (lt-or-le (length out) 17)

@@ -9,9 +9,9 @@ use lib.ListN.{length, getD, set, length-set}
 use lib.Seq.{getD-set-same, getD-set-other}
 use lib.Dec.{eqb}
 use borrow.Author.Tests.{eqb-true, eqb-false}
+use Rattle.plane.proofs.Tests.{lt-or-le}
 use Rattle.runs.specs.Runs.{Ranged, Laid}
 use Rattle.sweeps.specs.Flat.{Column}
-use Rattle.runs.proofs.Ranges.{lt-or-le}
 use Rattle.runs.proofs.FlatRows.{rows-apart, flat-lt, flat-inj}
 
 module _ {F : ℕ → ℕ → ℕ} {w c : ℕ} {d : List ℕ} where

@@ -8,8 +8,8 @@ use native.Mathlib.Nat.{mul-le-mul-right, add-mul, mul-comm}
 use native.Mathlib.Omega.{arith}
 use lib.ListN.{getD}
 use borrow.Author.Tests.{lt-ltb, le-ltb, le-leb, lt-leb}
+use Rattle.plane.proofs.Tests.{lt-or-le}
 use Rattle.sweeps.specs.Flat.{readFlat, readCell, overBits, flatAt, stageAt, pickOf, seedOf}
-use Rattle.runs.proofs.Ranges.{lt-or-le}
 use Rattle.runs.proofs.FlatRows.{rows-apart, flat-lt}
 use Rattle.sweeps.proofs.Readings.{back-in, back-out, ahead-in, ahead-out}
 

@@ -11,6 +11,7 @@ use lib.ListN.{length, getD}
 use borrow.Author.Tests.{lt-ltb, le-ltb, le-leb, lt-leb}
 use Rattle.plane.specs.Point.{_+ᵖ_, negᵖ, _-ᵖ_}
 use Rattle.plane.proofs.Integer.{diff-ge, diff-lt}
+use Rattle.plane.proofs.Tests.{lt-or-le}
 use Rattle.masks.specs.Mask.{maskPoints}
 use Rattle.grids.specs.Image.{valueAt, view, dilated, eroded}
 use Rattle.grids.specs.Frame.{free, full, greater, lesser}
@@ -18,7 +19,6 @@ use Rattle.grids.proofs.Stage.{greater-laws, lesser-laws}
 use Rattle.runs.specs.Runs.{over, Laid}
 use Rattle.sweeps.specs.Sweeps.{swept}
 use Rattle.sweeps.specs.Flat.{readCell, stageAt}
-use Rattle.runs.proofs.Ranges.{lt-or-le}
 use Rattle.sweeps.proofs.FlatIndex.{over-ap}
 use Rattle.sweeps.proofs.MaskBits.{mask-fold, bitPoint}
 use Rattle.runs.proofs.Whole.{laid-is}

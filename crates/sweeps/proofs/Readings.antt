@@ -9,8 +9,8 @@ use native.Mathlib.Omega.{arith}
 use lib.ListN.{getD}
 use borrow.Author.Tests.{lt-ltb, le-ltb, le-leb, lt-leb}
 use native.Mathlib.Numerals.{add-one}
+use Rattle.plane.proofs.Tests.{lt-or-le}
 use Rattle.sweeps.specs.Flat.{readFlat, hasBit, overBits, flatAt, pickOf, seedOf, NextBit}
-use Rattle.runs.proofs.Ranges.{lt-or-le}
 use Rattle.runs.proofs.FlatRows.{rows-apart}
 
 module _ (v : ℕ) (g : List ℕ) (n o k : ℕ) where

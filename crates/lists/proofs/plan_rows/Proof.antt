@@ -23,12 +23,6 @@ loop-holds c = (omega arith, omega arith, sum-origin _ _ (omega arith))
 sub-i : tie.Need-sub-i Inv-loop μ-loop
 sub-i c = search needs
 
-mul-with-stage : tie.Need-mul-with-stage Inv-loop μ-loop
-mul-with-stage c = search needs
-
-shared-slice-read-with-stage : tie.Need-shared-slice-read-with-stage Inv-loop μ-loop
-shared-slice-read-with-stage c = search needs
-
 with-stage-requires : tie.Need-with-stage-requires Inv-loop μ-loop
 with-stage-requires c κs = search needs
 
@@ -37,7 +31,7 @@ loop-less c = search needs
 
 loop-again : tie.Need-loop-again Inv-loop μ-loop
 loop-again c =
-    let h = c .before .before .before in
+    let h = c .before .before in
     let ws = h .before .before .args .ws .now in
     let i = h .loop .i in (
       omega arith,
@@ -59,8 +53,6 @@ plan-rows-spec =
     array-write-r
     loop-holds
     sub-i
-    mul-with-stage
-    shared-slice-read-with-stage
     with-stage-requires
     loop-less
     loop-again

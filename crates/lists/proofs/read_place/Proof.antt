@@ -1,30 +1,29 @@
--- Past the end of a list a word reads as 0, which is of no used kind.
-use mathlib.Core.Path.{_≡_, sym, ap}
-use native.Mathlib.Omega.{arith}
-use lib.ListN.{getD, List·getD-eq-default}
-use denote.Ref.{now}
+-- A word of the kind holds its fields; one of another kind holds 0 and 0.
+use mathlib.Core.Path.{sym, ap, _∙_}
 use borrow.Author.Needs.{needs}
 use Rattle.plane.specs.Point.{Cell}
-use Rattle.words.specs.Read.{wordOf}
 use Rattle.lists.specs.Held.{placeIn}
+use Rattle.lists.proofs.Fields.{no-place}
 use Rattle.lists.proofs.read_place.Statement.{statement}
 use Rattle.lists.proofs.read_place.Tie as tie
 
+word-at-requires : tie.Need-word-at-requires
+word-at-requires c κs = search needs
+
+enum-known-word : tie.Need-enum-known-word
+enum-known-word c = search needs
+
 returns : tie.Need-returns
 returns c =
-    let ws = now (c .before .before .args .ws) in
-    let e : placeIn (wordOf 0) ≡ placeIn (wordOf (getD ws 1 0)) = ap (λ w. placeIn (wordOf w)) (sym (List·getD-eq-default ws 0 (omega arith))) in
-    (ap (λ (p : Cell). p .0) e, ap (λ (p : Cell). p .1) e)
-
-shared-slice-read-place-of : tie.Need-shared-slice-read-place-of
-shared-slice-read-place-of c = search needs
-
-place-of-requires : tie.Need-place-of-requires
-place-of-requires c κs = search needs
+    let k = c .before .before .before in
+    let e = sym (k .word-at .ensures) ∙ c .before .word .given .1 in
+    (ap (λ v. placeIn v .0) (sym e), ap (λ v. placeIn v .1) (sym e))
 
 returns-2 : tie.Need-returns-2
-returns-2 c = search needs
+returns-2 c =
+    let k = c .before in
+    let e = sym (no-place (k .word-at .result) (c .match .keys2)) ∙ ap placeIn (k .word-at .ensures) in
+    (ap (λ (p : Cell). p .0) e, ap (λ (p : Cell). p .1) e)
 
 pub read-place-spec : {M : Type 1} → statement M
-read-place-spec =
-    tie.close (tie.spec returns shared-slice-read-place-of place-of-requires returns-2)
+read-place-spec = tie.close (tie.spec word-at-requires enum-known-word returns returns-2)

@@ -16,12 +16,6 @@ abbrev μ-loop : tie.MeasureT-loop
 loop-holds : tie.Need-loop-holds Inv-loop μ-loop
 loop-holds c = (omega arith, read-none _)
 
-mul-with-word : tie.Need-mul-with-word Inv-loop μ-loop
-mul-with-word c = search needs
-
-shared-slice-read-with-word : tie.Need-shared-slice-read-with-word Inv-loop μ-loop
-shared-slice-read-with-word c = search needs
-
 with-word-requires : tie.Need-with-word-requires Inv-loop μ-loop
 with-word-requires c κs = search needs
 
@@ -33,7 +27,7 @@ loop-less c = search needs
 
 loop-again : tie.Need-loop-again Inv-loop μ-loop
 loop-again c =
-    let h = c .before .before .before in
+    let h = c .before .before in
     (omega arith, read-more (h .before .before .args .ws .now) (h .loop .i) (h .loop .r) (c .with-word .result) (omega arith) (h .loop .inv .1) (c .with-word .ensures))
 
 returns : tie.Need-returns Inv-loop μ-loop
@@ -46,8 +40,6 @@ read-rows-spec =
     Inv-loop
     μ-loop
     loop-holds
-    mul-with-word
-    shared-slice-read-with-word
     with-word-requires
     add-i
     loop-less

@@ -1,5 +1,7 @@
 -- A stage word's mask is added; a word of another kind has none.
 use mathlib.Core.Path.{sym, ap, _∙_}
+use lib.ListN.{getD}
+use denote.Ref.{now}
 use borrow.Author.Needs.{needs}
 use Rattle.lists.specs.Held.{maskIn}
 use Rattle.lists.proofs.Fields.{no-stage}
@@ -7,8 +9,8 @@ use Rattle.lists.proofs.Summed.{stage-sum, stage-none}
 use Rattle.lists.proofs.with_stage.Statement.{statement}
 use Rattle.lists.proofs.with_stage.Tie as tie
 
-read-requires : tie.Need-read-requires
-read-requires c κs = search needs
+word-at-requires : tie.Need-word-at-requires
+word-at-requires c κs = search needs
 
 enum-known-word : tie.Need-enum-known-word
 enum-known-word c = search needs
@@ -25,20 +27,21 @@ sum-of-requires c κs = search needs
 returns : tie.Need-returns
 returns c =
     let k = c .before .before .before .before .before in
-    let st = k .before in
-    stage-sum (st .args .z) (c .before .mask-rows .result) (c .sum-of .result) (st .args .w) _ (sym (k .read .ensures) ∙ c .before .before .before .word .given .1)
+    let st = k .before .before in
+    stage-sum (st .args .z) (c .before .mask-rows .result) (c .sum-of .result) (getD (now (st .args .ws)) (st .args .at) 0) _ (sym (k .word-at .ensures) ∙ c .before .before .before .word .given .1)
     (c .before .mask-rows .ensures) (c .sum-of .ensures)
 
 returns-2 : tie.Need-returns-2
 returns-2 c =
     let k = c .before in
-    stage-none (k .before .args .z) (k .before .args .w) (ap maskIn (sym (k .read .ensures)) ∙ no-stage (k .read .result) (c .match .keys2))
+    let args = k .before .before .args in
+    stage-none (args .z) (getD (now (args .ws)) (args .at) 0) (ap maskIn (sym (k .word-at .ensures)) ∙ no-stage (k .word-at .result) (c .match .keys2))
 
 pub with-stage-spec : {M : Type 1} → statement M
 with-stage-spec =
     tie.close
     (tie.spec
-    read-requires
+    word-at-requires
     enum-known-word
     cast-mask-rows
     mask-rows-requires

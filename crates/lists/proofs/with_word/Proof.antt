@@ -1,5 +1,7 @@
 -- A row word is joined where it stands; a word of another kind has no cells.
 use mathlib.Core.Path.{sym, ap, _∙_}
+use lib.ListN.{getD}
+use denote.Ref.{now}
 use borrow.Author.Needs.{needs}
 use Rattle.rows.proofs.Known.{rows16}
 use Rattle.lists.specs.Held.{cellsIn}
@@ -8,8 +10,8 @@ use Rattle.lists.proofs.Joined.{word-row, word-none}
 use Rattle.lists.proofs.with_word.Statement.{statement}
 use Rattle.lists.proofs.with_word.Tie as tie
 
-read-requires : tie.Need-read-requires
-read-requires c κs = search needs
+word-at-requires : tie.Need-word-at-requires
+word-at-requires c κs = search needs
 
 enum-known-word : tie.Need-enum-known-word
 enum-known-word c = search needs
@@ -35,19 +37,20 @@ array-write-r c = search needs
 returns : tie.Need-returns
 returns c =
     let k = c .before .before .before in
-    let st = k .before in
-    word-row (st .args .z) (st .args .w) _ _ (rows16 (st .args .z) _ (st .good .0) .rows) (sym (k .read .ensures) ∙ c .before .word .given .1)
+    let st = k .before .before in
+    word-row (st .args .z) (getD (now (st .args .ws)) (st .args .at) 0) _ _ (rows16 (st .args .z) _ (st .good .0) .rows) (sym (k .word-at .ensures) ∙ c .before .word .given .1)
 
 returns-2 : tie.Need-returns-2
 returns-2 c =
     let k = c .before in
-    word-none (k .before .args .z) (k .before .args .w) (ap cellsIn (sym (k .read .ensures)) ∙ no-row (k .read .result) (c .match .keys2))
+    let args = k .before .before .args in
+    word-none (args .z) (getD (now (args .ws)) (args .at) 0) (ap cellsIn (sym (k .word-at .ensures)) ∙ no-row (k .word-at .result) (c .match .keys2))
 
 pub with-word-spec : {M : Type 1} → statement M
 with-word-spec =
     tie.close
     (tie.spec
-    read-requires
+    word-at-requires
     enum-known-word
     cast-j
     mul-r

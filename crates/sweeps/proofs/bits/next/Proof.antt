@@ -3,7 +3,7 @@ use mathlib.Core.Path.{_≡_, sym, ap, _∙_}
 use mathlib.Core.Logic.{⊎-elim}
 use mathlib.Core.Bool.{false}
 use Prim.Native.Nat.{ℕ, _-_, _<_, _≤_}
-use Rattle.runs.proofs.Ranges.{lt-or-le}
+use Rattle.plane.proofs.Tests.{lt-or-le}
 use Rattle.sweeps.specs.Flat.{hasBit}
 use borrow.Author.Needs.{needs}
 use native.Mathlib.Omega.{arith}
