@@ -98,11 +98,6 @@ bytes-binary v l [] t i = l
 bytes-binary v l (a ∷ g) t zero = nltb→le full a (not-or (ltb full a) (badCell g) .0 t .0)
 bytes-binary v l (a ∷ g) t (suc i) = bytes-binary v l g (not-or (ltb full a) (badCell g) .0 t .1) i
 
-pub clean-take : (n : ℕ) (g : List ℕ) → T (not (badCell g)) → T (not (badCell (take n g)))
-clean-take zero g t = tt
-clean-take (suc n) [] t = tt
-clean-take (suc n) (a ∷ g) t = let u = not-or (ltb full a) (badCell g) .0 t in not-or (ltb full a) (badCell (take n g)) .1 (u .0, clean-take n g (u .1))
-
 pub view-binary : (v W H : ℕ) (l : List ℕ) → v ≤ 1 → ((i : ℕ) → i < H * W → getD l i v ≤ 1) → Binary (view v W H l)
 unfolding valueAt
 view-binary v W H l low h p = go (p .0) (p .1)

@@ -3,15 +3,15 @@ use mathlib.Core.Path.{_≡_, refl, sym, _∙_, ap, ap₂, subst}
 use mathlib.Core.Logic.{_↔_, _⊎_, inl, inr}
 use mathlib.Core.Bool.{Bool, not, _&&_, _||_}
 use mathlib.Core.List.{List, [], _∷_, map, _++_}
-use Prim.Native.Nat.{ℕ, zero, suc, _+_, _*_, _/_, _%_, _^_, _≤_, _<_, zero-le}
+use Prim.Native.Nat.{ℕ, zero, suc, _+_, _≤_, _<_, zero-le}
 use native.Mathlib.Omega.{arith}
 use lib.Dec.{T, leb, ltb, eqb, eqb→eq, ltb→lt, leb→le}
 use lib.ListN.{length}
 use lib.IntN.{ℤ, pos, _+ℤ_, _-ℤ_, negℤ, negℤ-negℤ, negℤ-+ℤ, +ℤ-comm, +ℤ-idl, -ℤ-+ℤ-cancel, pos-ne-negsuc}
-use Rattle.plane.specs.Lists.{In, any, all, keep, upTo, flat}
+use Rattle.plane.specs.Lists.{In, any, all, upTo, flat}
 use Rattle.plane.specs.Point.{Point, _+ᵖ_, negᵖ, _-ᵖ_, _≐_, moved, Cell, point}
 use Rattle.plane.proofs.Algebra.{+ᵖ-cancel, ≐-sym}
-use Rattle.plane.proofs.Member.{In-map, In-flat, In-any, In-keep, upTo-In, each-below}
+use Rattle.plane.proofs.Member.{In-map, In-flat, In-any, each-below}
 use Rattle.plane.proofs.Tests.{T-and, T-or, clash}
 use Rattle.masks.specs.Chain.{sums, sumOf}
 use Rattle.masks.specs.Mask.{maskCells, maskPoints, hasColumn, hasRow, normal, stage}
@@ -172,30 +172,3 @@ same-move A B d e s a b =
     let u = step A B d e s a in
     let v = step B A e d (≐-sym s) b in
     λ i. (both-ways (d .0) (e .0) (u .0) (v .0) (u .2) (v .2) i, both-ways (d .1) (e .1) (u .1) (v .1) (u .3) (v .3) i)
-
--- ---- no sum is wider or higher than two for each mask: fewer stages than half the greater extent are not enough
-
--- no farther than n from either axis
-abbrev Upto : ℕ → Cell → Type 0
-Upto n c = (c .0 ≤ n) × (c .1 ≤ n)
-
--- cell k of the square is (k % 3, k / 3), and k is below 9
-mask-small : (m : ℕ) (c : Cell) → In (maskCells m) c → Upto 2 c
-unfolding maskCells
-mask-small m c h =
-    let r = In-map (λ k. (k % 3, k / 3)) (keep isSet (upTo 9)) c .0 h in
-    let l = upTo-In 9 (r .0) (In-keep isSet (upTo 9) (r .0) .0 (r .1) .0) in
-    subst (Upto 2) (sym (r .2)) (omega arith, omega arith)
-  where
-    isSet : ℕ → Bool
-    isSet k = eqb (m / 2 ^ k % 2) 1
-
-pub sum-wide : (ms : List ℕ) (c : Cell) → In (sumCells ms) c → (c .0 ≤ 2 * length ms) × (c .1 ≤ 2 * length ms)
-unfolding sumCells
-sum-wide [] c (inl e) = subst (Upto (2 * 0)) (sym e) (zero-le, zero-le)
-sum-wide [] c (inr f) = absurd f
-sum-wide (m ∷ ms) c h =
-    let r = In-sums (maskCells m) (sumCells ms) c .0 h in
-    let a = mask-small m (r .0) (r .2) in
-    let b = sum-wide ms (r .1) (r .3) in
-    subst (Upto (2 * suc (length ms))) (sym (r .4)) (omega arith, omega arith)

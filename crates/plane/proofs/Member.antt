@@ -1,5 +1,5 @@
 -- Membership in lists, and tests over all members of a list, each by induction on the list.
-use mathlib.Core.Path.{_≡_, refl, sym, _∙_, ap, ap₂, subst}
+use mathlib.Core.Path.{_≡_, refl, sym, _∙_, ap, subst}
 use mathlib.Core.Logic.{_↔_, _⊎_, inl, inr, Iff·trans}
 use mathlib.Core.Bool.{Bool, true, false, not, cond, _&&_, _||_}
 use mathlib.Core.List.{List, [], _∷_, _++_, map}
@@ -218,8 +218,3 @@ module _ {A B : Type 0} (g : A → B) where
   next-map f [] = refl
   next-map f (x ∷ []) = refl
   next-map f (x ∷ y ∷ xs) = ap (λ b. f (g x) (g y) || b) (next-map f (y ∷ xs))
-
--- tests that agree at each member agree on the list
-pub any-same : {A : Type 0} (f g : A → Bool) (xs : List A) → ((a : A) → f a ≡ g a) → any f xs ≡ any g xs
-any-same f g [] h = refl
-any-same f g (x ∷ xs) h = ap₂ (λ a b. a || b) (h x) (any-same f g xs h)

@@ -1,9 +1,9 @@
 -- Reading a byte at a time: a bad line stays bad, and a byte that cannot come next spoils; a digit, and a line feed after eight digits, go on.
 use mathlib.Core.Path.{_≡_, refl, sym, ap, ap₂, subst, _∙_}
 use mathlib.Core.Bool.{Bool, true, false, not, cond}
-use mathlib.Core.Logic.{_⊎_, inl, inr, ⊎-elim}
+use mathlib.Core.Logic.{⊎-elim}
 use mathlib.Core.List.{List, [], _∷_, _++_, append-assoc, append-nil}
-use Prim.Native.Nat.{ℕ, zero, suc, _+_, _*_, _%_, _^_, _≤_, _<_, min}
+use Prim.Native.Nat.{ℕ, _+_, _*_, _%_, _^_, _≤_, _<_, min}
 use native.Mathlib.Nat.{pow-le-pow-right, pow-suc}
 use native.Mathlib.Numerals.{add-one}
 use native.Mathlib.Omega.{arith}
@@ -59,21 +59,6 @@ module _ (seen : List ℕ) (s : Reading) (H : Held seen s) where
         words = B .fit;
         lines = B .text ∙ ap (λ k. wordLines (B .lines) ++ lowest k (s .value)) z ∙ append-nil (wordLines (B .lines));
       }
-
--- at the end of the input: no list of words is read, or one is, of which the first 18 words are kept
-abbrev pub AtEnd : List ℕ → Reading → Type 0
-AtEnd seen s = ((ws : List ℕ) → ¬ Reads seen ws) ⊎ ((ws : List ℕ) × (Reads seen ws × (take (s .count) (s .words) ≡ take 18 ws)))
-
-pub at-end : (seen : List ℕ) (s : Reading) → Held seen s → AtEnd seen s
-at-end seen s H = go (s .bad) refl
-  where
-    last : (e : s .bad ≡ false) (k : ℕ) → s .digits ≡ k → AtEnd seen s
-    last e zero z = inr (H .good e .lines, (all-read seen s H e z, H .good e .kept))
-    last e (suc k) z = inl (begun-unread seen s H e (λ n. omega arith))
-
-    go : (b : Bool) → s .bad ≡ b → AtEnd seen s
-    go true e = inl (bad-unread seen s H e)
-    go false e = last e (s .digits) refl
 
 -- ---- more bytes
 
