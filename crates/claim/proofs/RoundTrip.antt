@@ -1,7 +1,6 @@
 -- The words of the plan pass every ground of a plan list, stand for the shape's points, and equal points have equal lists.
 use mathlib.Core.Path.{_≡_, _∙_, ap, subst}
 use mathlib.Core.List.{[], _∷_, _++_}
-use Prim.Native.Nat.{_+_}
 use lib.ListN.{length, take, drop}
 use Rattle.words.specs.Ground.{stated, result}
 use Rattle.words.proofs.Refusals.{unclear, clear-append}

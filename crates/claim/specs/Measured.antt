@@ -1,7 +1,7 @@
 -- Document 01, "Measured against": all that is marked P, as one statement about the definitions. Each case goes through the promise of its call: whatever
 -- answer, words and cells the promise allows, they are the ones that the document names.
 use mathlib.Core.Path.{_≡_}
-use mathlib.Core.Bool.{Bool, true, false}
+use mathlib.Core.Bool.{true, false}
 use mathlib.Core.List.{List, [], _∷_, _++_}
 use Prim.Native.Nat.{ℕ, _+_, _/_, _≤_, max}
 use lib.IntN.{pos}

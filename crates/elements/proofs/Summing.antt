@@ -9,7 +9,7 @@ use lib.Dec.{T, lt→ltb}
 use lib.IntN.{ℤ, pos, negℤ, _+ℤ_, +ℤ-idr}
 use Rattle.plane.specs.Extent.{x-of, y-of}
 use Rattle.plane.specs.Lists.{In}
-use Rattle.plane.specs.Point.{Point, point, _+ᵖ_, _≐_, _⊕_}
+use Rattle.plane.specs.Point.{Point, point, _+ᵖ_, _≐_}
 use Rattle.plane.proofs.Algebra.{≐-trans, ≐-sym, ⊕-cong}
 use Rattle.plane.proofs.Integer.{+ℤ-swap, diff-lt}
 use Rattle.plane.proofs.Tests.{clash}

@@ -4,10 +4,9 @@ use mathlib.Core.Path.{_≡_, refl, sym, _∙_, ap, subst}
 use mathlib.Core.Logic.{⊎-elim}
 use mathlib.Core.Bool.{true}
 use mathlib.Core.List.{List, map}
-use Prim.Native.Nat.{ℕ, _+_, _-_, _≤_, _<_, zero-le}
+use Prim.Native.Nat.{ℕ, _+_, _-_, _<_, zero-le}
 use native.Mathlib.Omega.{arith}
 use lib.IntN.{ℤ, pos, _+ℤ_, +ℤ-idl, +ℤ-comm}
-use lib.Signed.{_≤ℤ_}
 use Rattle.plane.specs.Extent.{x-of, y-of, least, corner}
 use Rattle.plane.specs.Lists.{In}
 use Rattle.plane.specs.Point.{Point, point, _+ᵖ_, _≐_, Cell}

@@ -1,6 +1,6 @@
 -- Pictures: a value at each point of the plane. Rows of cells read as a picture and back, and dilation and erosion of a picture by a list of points,
 -- with the greater and the lesser of two values given. The values may be of any type.
-use mathlib.Core.Bool.{Bool, cond, _&&_}
+use mathlib.Core.Bool.{cond, _&&_}
 use mathlib.Core.List.{List, [], _∷_, map}
 use Prim.Native.Nat.{ℕ, _+_, _*_}
 use lib.Dec.{ltb}

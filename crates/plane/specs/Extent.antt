@@ -1,6 +1,6 @@
 -- Document 01, "Shapes": the extents w = greatest x − least x and h likewise in y, of a finite list of points and of any set of points.
 use mathlib.Core.Path.{_≡_}
-use mathlib.Core.Bool.{Bool, cond}
+use mathlib.Core.Bool.{cond}
 use mathlib.Core.List.{List, [], _∷_, map}
 use Prim.Native.Nat.{ℕ}
 use lib.IntN.{ℤ, pos, _+ℤ_, _-ℤ_, natAbs}

@@ -6,7 +6,7 @@ use mathlib.Core.List.{List, _∷_, _++_, map}
 use Prim.Native.Nat.{ℕ, _+_, _≤_}
 use native.Mathlib.Omega.{arith}
 use lib.Dec.{T}
-use lib.IntN.{pos, _+ℤ_, natAbs, -ℤ-+ℤ-cancel}
+use lib.IntN.{pos, natAbs, -ℤ-+ℤ-cancel}
 use lib.ListN.{length, drop}
 use Rattle.plane.specs.Lists.{In}
 use Rattle.plane.specs.Point.{Point, point, _+ᵖ_, _-ᵖ_, origin, _≐_, moved}

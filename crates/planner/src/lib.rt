@@ -1,7 +1,6 @@
 // Planning on lists of words: a shape list in, the list of its shortest plan out, or the answer that no chain exists.
 // All grounds are tried, and the search is over, before the first word is written.
-ghost use mathlib.Core.Path.{_≡_};
-ghost use Prim.Native.Nat.{_+_, _≤_};
+ghost use Prim.Native.Nat.{_≤_};
 ghost use lib.ListN.{length};
 ghost use Rattle.planning.specs.Planning.{Planned};
 ghost use Rattle.search.specs.Plans.{chosen};

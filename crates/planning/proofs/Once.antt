@@ -1,6 +1,6 @@
 -- No input is read in two ways: what is printed for it is one plan or one refusal, so the program's promise can be kept.
 use mathlib.Core.Path.{_≡_, refl, sym, _∙_, ap, ap₂}
-use mathlib.Core.Bool.{Bool, not, cond}
+use mathlib.Core.Bool.{not}
 use mathlib.Core.Logic.{_⊎_, inl, inr}
 use mathlib.Core.List.{List, [], _∷_}
 use Prim.Native.Nat.{ℕ, _+_, _*_, _/_, _%_, _^_, _<_}
@@ -9,7 +9,7 @@ use native.Mathlib.Omega.{arith}
 use lib.Dec.{T, ltb, ltb→lt, nltb→le}
 use lib.ListN.{getD, drop}
 use Rattle.plane.specs.Lists.{all}
-use Rattle.plane.proofs.Tests.{T-and, T-dec, cond-ind}
+use Rattle.plane.proofs.Tests.{T-and, cond-ind}
 use Rattle.planning.specs.Printer.{digit, wordLine, wordLines, Reads}
 
 -- the two kinds of digits

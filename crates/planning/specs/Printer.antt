@@ -1,8 +1,8 @@
 -- Document 01, "Printer": what the program `shapeplan` prints for what it reads. Both are lists of bytes.
 use mathlib.Core.Path.{_≡_}
-use mathlib.Core.Bool.{Bool, cond}
+use mathlib.Core.Bool.{cond}
 use mathlib.Core.List.{List, [], _∷_, _++_}
-use Prim.Native.Nat.{ℕ, zero, suc, _+_, _/_, _%_, _^_, _<_}
+use Prim.Native.Nat.{ℕ, zero, suc, _+_, _/_, _%_, _^_}
 use lib.Dec.{T, ltb}
 use lib.ListN.{length, take}
 use Rattle.plane.specs.Lists.{all, flat}

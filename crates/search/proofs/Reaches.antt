@@ -15,7 +15,7 @@ use Rattle.stages.specs.Reach.{reach}
 use Rattle.stages.proofs.Stages.{numberOf, reach-all, reach-cell, reach-some, reach-small}
 use Rattle.rows.specs.Cells.{Cells, Same, Sum, AtMask, AtSum}
 use Rattle.rows.proofs.Bridge.{mask-cells}
-use Rattle.extents.specs.Extents.{Greatest, row, column}
+use Rattle.extents.specs.Extents.{Greatest}
 
 -- the number of a cell that a reach is about: its row, or its column
 abbrev pub along : Bool → ℕ → ℕ → ℕ

@@ -5,7 +5,7 @@ use mathlib.Core.Bool.{Bool, true, false, not}
 use mathlib.Core.List.{List, [], _∷_}
 use Prim.Native.Nat.{ℕ, zero, suc, _≤_}
 use lib.Dec.{T}
-use lib.ListN.{getD, length}
+use lib.ListN.{getD}
 use Rattle.plane.specs.Lists.{all}
 use Rattle.masks.specs.Chain.{falling, before}
 use Rattle.rows.specs.Cells.{Cells, Same, AtSum}

@@ -5,7 +5,7 @@ use mathlib.Core.List.{List, [], _∷_, _++_}
 use Prim.Native.Nat.{ℕ}
 use native.Mathlib.Omega.{arith}
 use lib.ListN.{replicate}
-use Rattle.planning.specs.Printer.{wordLine, wordLines, refusedLine, Reads}
+use Rattle.planning.specs.Printer.{wordLines, refusedLine, Reads}
 use Rattle.text.specs.Page.{Holds}
 use Rattle.text.specs.Reader.{lowest, Held}
 use Rattle.text.specs.declared.page.Page.{Page}

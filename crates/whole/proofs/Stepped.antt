@@ -1,8 +1,8 @@
 -- What follows from the case of planning's answer, and of the operation's.
 use mathlib.Core.Path.{_≡_, refl, sym, _∙_, ap, subst}
 use mathlib.Core.Logic.{_⊎_, inl, inr, _≢_}
-use mathlib.Core.Bool.{not, cond}
-use mathlib.Core.List.{List, [], _++_}
+use mathlib.Core.Bool.{not}
+use mathlib.Core.List.{List, []}
 use Prim.Native.Nat.{ℕ, _+_, _-_, _≤_}
 use native.Mathlib.Nat.{sub-zero}
 use native.Mathlib.Omega.{arith}
@@ -17,7 +17,6 @@ use Rattle.words.specs.declared.Ground.{Ground}
 use Rattle.words.proofs.Refusals.{refused-some}
 use Rattle.shapes.specs.Plan.{planWords}
 use Rattle.planning.specs.Planning.{planningTests, Planned, Unplannable, PlanWritten}
-use Rattle.grids.specs.Frame.{badSize}
 use Rattle.cleaning.specs.Cleaning.{part, Cleaned}
 use Rattle.cleaning.specs.declared.Operation.{Operation}
 use Rattle.claim.specs.Whole.{Claim, handedFor, Steps}

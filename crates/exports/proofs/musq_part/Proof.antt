@@ -3,7 +3,6 @@ use borrow.Author.Needs.{needs}
 use native.Mathlib.Omega.{arith}
 use mir.Syntax.{w64}
 use mir.ValLaws.{toZ-pos}
-use lib.ListN.{length}
 use Rattle.exports.proofs.Parted.{found}
 use Rattle.exports.proofs.musq_part.Statement.{statement}
 use Rattle.exports.proofs.musq_part.Tie as tie

@@ -2,7 +2,6 @@
 use borrow.Author.Needs.{needs}
 use borrow.Author.Tests.{eq-eqb, ne-eqb}
 use mathlib.Core.Path.{sym, _∙_}
-use native.Mathlib.Omega.{arith}
 use Rattle.stages.proofs.Stages.{stage-is, stage-large}
 use Rattle.stages.proofs.is_stage.Statement.{statement}
 use Rattle.stages.proofs.is_stage.Tie as tie

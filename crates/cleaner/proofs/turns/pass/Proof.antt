@@ -1,10 +1,8 @@
 -- The invariant: the stages before word k were run, and those that are left take the grid that stands to the last one. The measure is the words left.
 use borrow.Author.Needs.{needs}
 use native.Mathlib.Omega.{arith}
-use mathlib.Core.Path.{_≡_}
 use Prim.Native.Nat.{_-_, _≤_}
-use lib.ListN.{length, getD}
-use Rattle.shapes.specs.Plan.{planTests}
+use lib.ListN.{length}
 use Rattle.cleaner.proofs.Alternating.{Midway, midway-start, midway-more, midway-sizes, midway-end}
 use Rattle.cleaner.proofs.Accepted.{plan-length, word-passes}
 use Rattle.cleaner.proofs.turns.pass.Statement.{statement}

@@ -1,10 +1,8 @@
 -- A chunk that ends before the grid does, at the distance, is joined with cells; past there it is joined with the value outside.
-use mathlib.Core.Path.{_≡_, sym, ap, _∙_}
+use mathlib.Core.Path.{sym}
 use mathlib.Core.Bool.{true}
-use mathlib.Core.List.{List}
-use Prim.Native.Nat.{ℕ, _+_, _-_, _<_, _≤_}
+use Prim.Native.Nat.{_+_, _-_}
 use native.Mathlib.Omega.{arith}
-use lib.ListN.{getD}
 use Rattle.sweeps.specs.Flat.{pickOf, readFlat}
 use Rattle.runs.proofs.Ranges.{ranged-read, ranged-blend, ranged-blend-value, ranged-halves}
 use Rattle.sweeps.proofs.Readings.{ahead-joined, ahead-out}

@@ -1,10 +1,8 @@
 -- A chunk wholly past the distance is joined with cells; one that begins before it is joined with the value outside up to there.
-use mathlib.Core.Path.{_≡_, sym, ap, _∙_}
+use mathlib.Core.Path.{sym}
 use mathlib.Core.Bool.{false}
-use mathlib.Core.List.{List}
-use Prim.Native.Nat.{ℕ, _+_, _-_, _≤_}
+use Prim.Native.Nat.{_-_}
 use native.Mathlib.Omega.{arith}
-use lib.ListN.{getD}
 use Rattle.sweeps.specs.Flat.{pickOf, readFlat}
 use Rattle.runs.proofs.Ranges.{ranged-read, ranged-blend, ranged-blend-value, ranged-halves}
 use Rattle.sweeps.proofs.Readings.{back-joined, back-out}
