@@ -14,9 +14,8 @@ use Rattle.plane.proofs.Member.{In-any, In-keep, In-upTo, upTo-In}
 use Rattle.plane.proofs.Tests.{eq-eqb, same-test, lt-or-le}
 use Rattle.words.specs.Word.{anchorWord, rowWord}
 use Rattle.rows.specs.Cells.{At, bit}
-use Rattle.rows.proofs.Sums.{row-cell}
 use Rattle.rows.proofs.RowBits.{bits-ext, no-bit}
-use Rattle.rows.proofs.Sums.{Rows16, bit-same}
+use Rattle.rows.proofs.Sums.{Rows16, bit-same, row-cell}
 use Rattle.shapes.specs.Listed.{leastAnchor, columnSet, rowOf, hasCells, listed}
 use Rattle.shapes.proofs.Listed.{has-in}
 use Rattle.lists.specs.Held.{rowWords, shapeWords}

@@ -1,5 +1,5 @@
 -- `words::read` meets its contract: each arm is `readAs` of its kind. The last two arms know that the kind is none of those before.
-use mathlib.Core.Path.{_≡_, sym, ap}
+use mathlib.Core.Path.{sym, ap}
 use borrow.Author.Tests.{ne-eqb}
 use Rattle.words.specs.Read.{readAs}
 use Rattle.words.proofs.read.Statement.{statement}
