@@ -44,7 +44,7 @@ pub fn last_row(a: [u16; 16]) -> usize
 }
 
 // The columns in which a has a cell: bit x for column x.
-fn columns(a: [u16; 16]) -> u16
+pub fn columns(a: [u16; 16]) -> u16
     ensures { λ r. ⌜ Columns a 16 r ⌝ }
 {
     let mut r: u16 = 0;

@@ -3,7 +3,9 @@ pub mod Examples
 pub mod RowBits
 pub mod Fill
 pub mod Shifts
+pub mod Strips
 pub mod Sums
 pub mod MaskRows
 pub mod Joins
 pub mod Known
+pub mod Addition

@@ -2,7 +2,7 @@
 -- where a set of cells stands on the plane. The laws say that these are the plane's own ⊕ and ⊖.
 use mathlib.Core.Path.{_≡_}
 use mathlib.Core.List.{List, [], _∷_}
-use Prim.Native.Nat.{ℕ, _+_, _*_, _/_, _%_, _^_, _<_}
+use Prim.Native.Nat.{ℕ, zero, suc, _+_, _*_, _/_, _%_, _^_, _<_}
 use lib.ListN.{getD}
 use Rattle.plane.specs.Point.{Point, _+ᵖ_, point}
 
@@ -53,6 +53,16 @@ pub record AtOrigin (x y : ℕ) : Type 0 where
 abbrev pub AtSum : List ℕ → Cells
 AtSum [] = AtOrigin
 AtSum (m ∷ ms) = Sum (AtMask m) (AtSum ms)
+
+-- the n masks that an array holds from its start, the first of them at n − 1
+unfoldable pub chosen : List ℕ → ℕ → List ℕ
+chosen masks zero = []
+chosen masks (suc n) = getD masks n 0 ∷ chosen masks n
+
+-- z is the part of X that lies in the window
+pub record CutTo (X : Cells) (z : List ℕ) : Type 0 where
+  pub to : (x y : ℕ) → At z x y → X x y
+  pub from : (x y : ℕ) → X x y → x < 16 → y < 16 → At z x y
 
 -- the points of X, moved by d
 pub record Points (X : Cells) (d p : Point) : Type 0 where

@@ -2,7 +2,8 @@
 use mathlib.Core.Path.{_≡_}
 use mathlib.Core.Logic.{_⊎_}
 use mathlib.Core.List.{List}
-use Prim.Native.Nat.{ℕ, _+_, _<_}
+use Prim.Native.Nat.{ℕ, _+_, _-_, _*_, _/_, _%_, _^_, _<_}
+use lib.Bits.{bitAnd, bitOr}
 use Rattle.rows.specs.Cells.{Cells, Sum, Residue, At, bit}
 
 -- (x, y) is a cell of X moved by (i, j)
@@ -69,3 +70,21 @@ Lowered X i j x y = X (x + i) (y + j)
 pub record Raised (X : Cells) (i j : ℕ) (Y : Cells) : Type 0 where
   pub to : (x y : ℕ) → Y x y → MovedCell X i j x y
   pub from : (x y : ℕ) → X x y → x + i < 16 → y + j < 16 → Y (x + i) (y + j)
+
+-- ---- by a mask
+
+-- a row moved by i columns and cut, where the mask has bit c; else 0
+abbrev pub movedOf : ℕ → ℕ → ℕ → ℕ → ℕ
+movedOf a m i c = bitAnd (a * 2 ^ i % 65536) (bit m c * 65535)
+
+-- the sum of a row and the three bits of the mask from s on
+unfoldable pub strip : ℕ → ℕ → ℕ → ℕ
+strip a m s = bitOr (bitOr (movedOf a m 0 s) (movedOf a m 1 (s + 1))) (movedOf a m 2 (s + 2))
+
+-- a row moved back by i columns, where the mask has bit c; else ones
+abbrev pub heldOf : ℕ → ℕ → ℕ → ℕ → ℕ
+heldOf t m i c = bitOr (t / 2 ^ i) ((1 - bit m c) * 65535)
+
+-- what the three bits of the mask from s on leave of a row
+unfoldable pub hold : ℕ → ℕ → ℕ → ℕ
+hold t m s = bitAnd (bitAnd (heldOf t m 0 s) (heldOf t m 1 (s + 1))) (heldOf t m 2 (s + 2))

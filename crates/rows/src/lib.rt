@@ -1,5 +1,7 @@
 // Rows of cells as 16-bit words, [u16; 16]: bit x of row y is the cell (x, y), and the window is the 16 × 16 cells that rows can hold.
-// sum_of and residue_of are ⊕ and ⊖ cut to the window; same tests rows; mask_rows, joined, lowered and raised make them.
+// sum_of and residue_of are ⊕ and ⊖ cut to the window, and by_mask has both for a mask; same tests rows; mask_rows, joined, lowered and raised make them.
+pub mod by_mask;
+
 ghost use mathlib.Core.Path.{_≡_};
 ghost use mathlib.Core.Bool.{true, false};
 ghost use Prim.Native.Nat.{_<_, _%_};
