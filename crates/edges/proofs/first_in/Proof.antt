@@ -1,0 +1,15 @@
+-- The zeros below the lowest bit are the column of the first cell.
+use lib.Count.{trailing-le}
+use Rattle.edges.proofs.Columns.{first-of}
+use native.Mathlib.Omega.{arith}
+use Rattle.edges.proofs.first_in.Statement.{statement}
+use Rattle.edges.proofs.first_in.Tie as tie
+
+cast-result : tie.Need-cast-result
+cast-result c = omega (arith, trailing-le 16 (c .args .row))
+
+returns : tie.Need-returns
+returns c = λ p. first-of 16 (c .args .row) p (omega arith)
+
+pub first-in-spec : {M : Type 1} → statement M
+first-in-spec = tie.close (tie.spec cast-result returns)

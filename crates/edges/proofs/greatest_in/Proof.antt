@@ -1,0 +1,37 @@
+-- The row's values, raised over no value, are its greatest.
+use Rattle.rows.proofs.RowBits.{bit-in}
+use Rattle.rows.proofs.Sums.{zero-at}
+use Rattle.edges.proofs.Greatest.{raised-none, row-topped}
+use borrow.Author.Needs.{needs}
+use native.Mathlib.Omega.{arith}
+use Rattle.edges.proofs.greatest_in.Statement.{statement}
+use Rattle.edges.proofs.greatest_in.Tie as tie
+
+returns : tie.Need-returns
+returns c = λ i l p q. absurd (omega arith)
+
+returns-2 : tie.Need-returns-2
+returns-2 c = λ i l p q. absurd (omega arith)
+
+first-in-requires : tie.Need-first-in-requires
+first-in-requires c κs = search needs
+
+last-in-requires : tie.Need-last-in-requires
+last-in-requires c κs = search needs
+
+raised-requires : tie.Need-raised-requires
+raised-requires c κs = (
+  omega (arith, bit-in 16 _ _ (omega arith) (c .before .first-in .ensures (omega arith) .cell)),
+  (omega (arith, bit-in 16 _ _ (omega arith) (c .last-in .ensures .cell)), omega arith),
+)
+
+returns-3 : tie.Need-returns-3
+returns-3 c = λ i l p q.
+    let f = c .before .before .first-in .ensures (omega arith) in
+    let first = bit-in 16 _ _ (omega arith) (f .cell) in
+    row-topped i l _ _ _ _ f (c .before .last-in .ensures) _ (raised-none i _ _ _ _ _ l first q (zero-at 16 i) (c .raised .ensures i l))
+
+pub greatest-in-spec : {M : Type 1} → statement M
+greatest-in-spec =
+    tie.close
+    (tie.spec returns returns-2 first-in-requires last-in-requires raised-requires returns-3)

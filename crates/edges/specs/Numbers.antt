@@ -1,0 +1,77 @@
+-- What the functions that find the numbers of rows answer. A greatest value is kept 64 more than it is, so that it is never below 0; no value at all is 0.
+use mathlib.Core.Path.{_≡_}
+use mathlib.Core.Logic.{_⊎_}
+use mathlib.Core.List.{List}
+use Prim.Native.Nat.{ℕ, _+_, _*_, _≤_, _<_}
+use lib.ListN.{getD}
+use Rattle.rows.specs.Cells.{At, bit}
+use Rattle.edges.specs.Edges.{ahead, behind, Number}
+
+-- r is the column of the first cell of a row
+pub record FirstIn (row r : ℕ) : Type 0 where
+  pub cell : bit row r ≡ 1
+  pub all : (x : ℕ) → bit row x ≡ 1 → r ≤ x
+
+-- r is the column of the last cell of a row
+pub record LastIn (row r : ℕ) : Type 0 where
+  pub cell : bit row r ≡ 1
+  pub all : (x : ℕ) → bit row x ≡ 1 → x ≤ r
+
+-- r is the greater of a and b
+pub record Greater (a b r : ℕ) : Type 0 where
+  pub left : a ≤ r
+  pub right : b ≤ r
+  pub one : (r ≡ a) ⊎ (r ≡ b)
+
+-- r is the greater of s and the greatest value of direction i on row y, whose cells reach from column first to column last
+pub record Raised (i first last y s r : ℕ) : Type 0 where
+  pub kept : s ≤ r
+  pub over : ahead i last y + 64 ≤ behind i first y + r
+  pub one : (r ≡ s) ⊎ (ahead i last y + 64 ≡ behind i first y + r)
+
+-- a row of the window is before r where it is before n
+pub record Clipped (n r : ℕ) : Type 0 where
+  pub small : r ≤ 16
+  pub kept : r ≤ n
+  pub rows : (y : ℕ) → y < 16 → y < n → y < r
+
+-- a cell before row n has the value r of direction i
+pub record Attained (i : ℕ) (cells : List ℕ) (n r : ℕ) : Type 0 where
+  pub x : ℕ
+  pub y : ℕ
+  pub cell : At cells x y
+  pub before : y < n
+  pub at : ahead i x y + 64 ≡ behind i x y + r
+
+-- r is the greatest value of direction i on the cells before row n, or 0 where there is none
+pub record Topped (i : ℕ) (cells : List ℕ) (n r : ℕ) : Type 0 where
+  pub all : (x y : ℕ) → At cells x y → y < n → ahead i x y + 64 ≤ behind i x y + r
+  pub some : (r ≡ 0) ⊎ Attained i cells n r
+
+-- r is the greatest value of direction i on the cells of a row that is row y
+pub record RowTopped (i row y r : ℕ) : Type 0 where
+  pub all : (x : ℕ) → bit row x ≡ 1 → ahead i x y + 64 ≤ behind i x y + r
+  pub x : ℕ
+  pub cell : bit row x ≡ 1
+  pub at : ahead i x y + 64 ≡ behind i x y + r
+
+-- the greatest values s and u of two directions, less t times the value m of a third, are from 0 to 120
+pub record Fits (s u m t : ℕ) : Type 0 where
+  pub first : s ≤ 124
+  pub second : u ≤ 124
+  pub middle : m ≤ 124
+  pub times : t ≤ 4
+  pub low : t * m + 128 ≤ s + u + t * 64
+  pub high : s + u + t * 64 ≤ t * m + 248
+
+-- the rows have a cell, and each of their cells lies before row n
+pub record Within (cells : List ℕ) (n : ℕ) : Type 0 where
+  pub x : ℕ
+  pub y : ℕ
+  pub cell : At cells x y
+  pub before : (u v : ℕ) → At cells u v → v < n
+
+-- r has the eighteen numbers of the rows, where these have a cell and none from row n on; where no cell lies before row n it has zeros
+pub record Numbered (cells : List ℕ) (n : ℕ) (r : List ℕ) : Type 0 where
+  pub number : Within cells n → (i : ℕ) → i < 18 → Number i (At cells) (getD r i 0)
+  pub none : ((x y : ℕ) → At cells x y → y < n → ⊥) → (i : ℕ) → getD r i 0 ≡ 0
