@@ -1,0 +1,292 @@
+-- A node's invariant: of the masks that have the number those from r on were tried. The measure is what document 01's form names: the remaining extents and
+-- the remaining stages of the list, doubled so that it falls from node to stage too.
+use mathlib.Core.Path.{_≡_, subst}
+use mathlib.Core.Bool.{true≢false}
+use mathlib.Core.Logic.{⊎-elim}
+use native.Mathlib.Omega.{arith}
+use lib.ListN.{length, getD, take, length-take}
+use denote.Ref.{now}
+use borrow.Author.Needs.{needs}
+use borrow.Author.Tests.{not-true, not-false}
+use Rattle.rows.proofs.Known.{field-length}
+use Rattle.completions.specs.Completing.{NoneHere, NoneBefore}
+use Rattle.completions.proofs.Nodes.{Turned, turned-none, turned-more, too-wide, too-high, node-none, stage-replaced, stage-passed, stage-none, some-left}
+use Prim.Native.Nat.{ℕ, _+_, _-_, _*_, _<_, _≤_}
+use borrow.Fn.Kinds.{In}
+use borrow.Fn.PlainCycle.{Measures, is, falls, and}
+use Rattle.completions.proofs.node.Reads as node
+use Rattle.completions.proofs.node.Kinds as node-kinds
+use Rattle.completions.proofs.+node+stage.Lts-node as node-lts
+use Rattle.completions.proofs.stage.Reads as stage
+use Rattle.completions.proofs.stage.Kinds as stage-kinds
+use Rattle.completions.proofs.+node+stage.Lts-stage as stage-lts
+use Rattle.completions.proofs.pools.fitted.Reads as fitted-reads
+use Rattle.completions.proofs.steps.replaced.Reads as replaced-reads
+use Rattle.completions.proofs.pools.scarce.Reads as scarce-reads
+use Rattle.completions.proofs.pools.split.Reads as split-reads
+use Rattle.completions.proofs.steps.step.Reads as step-reads
+use Rattle.completions.proofs.pools.tally.Reads as tally-reads
+use Rattle.completions.proofs.+node+stage.{statement}
+use Rattle.completions.proofs.+node+stage.Tie.{close}
+
+abbrev μ-node : Measures 2 node-kinds.ps ℕ
+μ-node κs a = (getD (a .0 .need) 16 0 + getD (a .0 .need) 17 0 + length (now (a .1 .1 .0))) * 2 + 1
+
+abbrev μ-stage : Measures 2 stage-kinds.ps ℕ
+μ-stage κs a = (getD (a .0 .need) 16 0 + getD (a .0 .need) 17 0 + a .1 .1 .1 .0) * 2
+
+abbrev node-at : ℕ → In 2 node-kinds.ps
+node-at t = and 2 node-kinds.ps (is 2 node-kinds.ps μ-node t) node.Pre
+
+abbrev node-below : ℕ → In 2 node-kinds.ps
+node-below t = and 2 node-kinds.ps (falls 2 node-kinds.ps _<_ μ-node t) node.Pre
+
+abbrev stage-at : ℕ → In 2 stage-kinds.ps
+stage-at t = and 2 stage-kinds.ps (is 2 stage-kinds.ps μ-stage t) stage.Pre
+
+abbrev stage-below : ℕ → In 2 stage-kinds.ps
+stage-below t = and 2 stage-kinds.ps (falls 2 stage-kinds.ps _<_ μ-stage t) stage.Pre
+
+abbrev node-claims : ℕ → node-lts.Claims
+node-claims t = (fitted-reads.Asked, fitted-reads.Learnt, tally-reads.Asked, tally-reads.Learnt, scarce-reads.Asked, scarce-reads.Learnt, split-reads.Asked, split-reads.Learnt, stage-below t, stage.Post)
+
+abbrev stage-claims : ℕ → stage-lts.Claims
+stage-claims t = (replaced-reads.Asked, replaced-reads.Learnt, step-reads.Asked, step-reads.Learnt, node-below t, node.Post)
+
+abbrev node-Inv-loop : node-lts.InvT-loop
+node-Inv-loop here nums cand k w h u i list p n r₀ r = (p ≤ r) × ((r ≤ n) × Turned nums (here .target) (here .rest) (here .path) (here .len) (here .need) cand k (take n list) r)
+
+abbrev node-μ-loop : node-lts.MeasureT-loop
+node-μ-loop here nums cand k w h u i list p n r₀ r = r
+
+node-array-read-w : (t : ℕ) → node-lts.Need-array-read-w (node-claims t) (node-at t) node.Post node-Inv-loop node-μ-loop
+node-array-read-w t c = search needs
+
+node-cast-w : (t : ℕ) → node-lts.Need-cast-w (node-claims t) (node-at t) node.Post node-Inv-loop node-μ-loop
+node-cast-w t c = search needs
+
+node-array-read-h : (t : ℕ) → node-lts.Need-array-read-h (node-claims t) (node-at t) node.Post node-Inv-loop node-μ-loop
+node-array-read-h t c = search needs
+
+node-cast-h : (t : ℕ) → node-lts.Need-cast-h (node-claims t) (node-at t) node.Post node-Inv-loop node-μ-loop
+node-cast-h t c = search needs
+
+node-returns : (t : ℕ) → node-lts.Need-returns (node-claims t) (node-at t) node.Post node-Inv-loop node-μ-loop
+node-returns t c = λ e. absurd (true≢false e)
+
+node-mul-if3 : (t : ℕ) → node-lts.Need-mul-if3 (node-claims t) (node-at t) node.Post node-Inv-loop node-μ-loop
+node-mul-if3 t c = search needs
+
+node-returns-2 : (t : ℕ) → node-lts.Need-returns-2 (node-claims t) (node-at t) node.Post node-Inv-loop node-μ-loop
+node-returns-2 t c = λ e. too-wide _ _ _ _ _ _ _ _ (c .if3 .taken)
+
+node-mul-if4 : (t : ℕ) → node-lts.Need-mul-if4 (node-claims t) (node-at t) node.Post node-Inv-loop node-μ-loop
+node-mul-if4 t c = search needs
+
+node-returns-3 : (t : ℕ) → node-lts.Need-returns-3 (node-claims t) (node-at t) node.Post node-Inv-loop node-μ-loop
+node-returns-3 t c = λ e. too-high _ _ _ _ _ _ _ _ (c .if4 .taken)
+
+node-fitted-requires : (t : ℕ) → node-lts.Need-fitted-requires (node-claims t) (node-at t) node.Post node-Inv-loop node-μ-loop
+node-fitted-requires t c κs = search needs
+
+node-tally-requires : (t : ℕ) → node-lts.Need-tally-requires (node-claims t) (node-at t) node.Post node-Inv-loop node-μ-loop
+node-tally-requires t c κs = search needs
+
+node-scarce-requires : (t : ℕ) → node-lts.Need-scarce-requires (node-claims t) (node-at t) node.Post node-Inv-loop node-μ-loop
+node-scarce-requires t c κs = search needs
+
+node-returns-4 : (t : ℕ) → node-lts.Need-returns-4 (node-claims t) (node-at t) node.Post node-Inv-loop node-μ-loop
+node-returns-4 t c = λ e. absurd (true≢false e)
+
+node-split-requires : (t : ℕ) → node-lts.Need-split-requires (node-claims t) (node-at t) node.Post node-Inv-loop node-μ-loop
+node-split-requires t c κs = search needs
+
+node-loop-holds : (t : ℕ) → node-lts.Need-loop-holds (node-claims t) (node-at t) node.Post node-Inv-loop node-μ-loop
+node-loop-holds t c =
+    let s = c .before .split in
+    let long = field-length 512 (s .result .list) (s .ok .1 .1 .0 .1 .0 .1) in
+    let few = s .ensures .few in
+    let fit = c .before .before .before .before .before .before .before .before .fitted .ensures in
+    let room = fit .room in
+    let fewer = fit .few in
+    (s .ensures .order, (omega arith, turned-none _ _ _ _ _ _ _ _ (take (s .result .n) (s .result .list)) _ (omega (arith, length-take (s .result .n) (s .result .list)))))
+
+node-sub-stage : (t : ℕ) → node-lts.Need-sub-stage (node-claims t) (node-at t) node.Post node-Inv-loop node-μ-loop
+node-sub-stage t c = search needs
+
+node-part-stage-start : (t : ℕ) → node-lts.Need-part-stage-start (node-claims t) (node-at t) node.Post node-Inv-loop node-μ-loop
+node-part-stage-start t c = search needs
+
+node-part-stage-end : (t : ℕ) → node-lts.Need-part-stage-end (node-claims t) (node-at t) node.Post node-Inv-loop node-μ-loop
+node-part-stage-end t c =
+    let s = c .before .before .before .before .split in
+    let long = field-length 512 (s .result .list) (s .ok .1 .1 .0 .1 .0 .1) in
+    let few = s .ensures .few in
+    let fit = c .before .before .before .before .before .before .before .before .before .before .before .fitted .ensures in
+    let room = fit .room in
+    let fewer = fit .few in
+    omega arith
+
+node-stage-requires : (t : ℕ) → node-lts.Need-stage-requires (node-claims t) (node-at t) node.Post node-Inv-loop node-μ-loop
+node-stage-requires t c κs =
+    let s = c .before .before .before .before .before .split in
+    let long = field-length 512 (s .result .list) (s .ok .1 .1 .0 .1 .0 .1) in
+    let few = s .ensures .few in
+    let fit = c .before .before .before .before .before .before .before .before .before .before .before .before .fitted .ensures in
+    let room = fit .room in
+    let fewer = fit .few in
+    let st = c .before .before .before .before .before .before .before .before .before .before .before .before .before .before .before .before .before .before .before in
+    let need = st .args .here .need in
+    let k = st .args .k in
+    let some : 0 < k = some-left (getD need 16 0) (getD need 17 0) k (λ e f. ⊎-elim (λ w. w .1 .left f) (λ w. w .left e) (c .before .before .before .before .before .before .before .before .before .before .before .before .before .before .before .if1 .came)) (c .before .before .before .before .before .before .before .before .before .before .before .before .before .before .if3 .left) (c .before .before .before .before .before .before .before .before .before .before .before .before .before .if4 .left) in
+    let r = c .before .before .before .loop .r in
+    let part : length (take (s .result .n - 0) (s .result .list)) ≡ s .result .n = omega (arith, length-take (s .result .n - 0) (s .result .list)) in
+    (omega arith, (some, (st .pre .1 .0, (st .pre .1 .1 .0, (omega arith, (omega (arith, part), omega (arith, part)))))))
+
+node-returns-5 : (t : ℕ) → node-lts.Need-returns-5 (node-claims t) (node-at t) node.Post node-Inv-loop node-μ-loop
+node-returns-5 t c = λ e. absurd (true≢false e)
+
+node-sub-r : (t : ℕ) → node-lts.Need-sub-r (node-claims t) (node-at t) node.Post node-Inv-loop node-μ-loop
+node-sub-r t c = search needs
+
+node-loop-less : (t : ℕ) → node-lts.Need-loop-less (node-claims t) (node-at t) node.Post node-Inv-loop node-μ-loop
+node-loop-less t c = search needs
+
+node-loop-again : (t : ℕ) → node-lts.Need-loop-again (node-claims t) (node-at t) node.Post node-Inv-loop node-μ-loop
+node-loop-again t c =
+    let s = c .before .before .before .before .before .before .before .split in
+    let long = field-length 512 (s .result .list) (s .ok .1 .1 .0 .1 .0 .1) in
+    let few = s .ensures .few in
+    let fit = c .before .before .before .before .before .before .before .before .before .before .before .before .before .before .fitted .ensures in
+    let room = fit .room in
+    let fewer = fit .few in
+    let st = c .before .before .before .before .before .before .before .before .before .before .before .before .before .before .before .before .before .before .before .before .before in
+    let h = st .args .here in
+    let r = c .before .before .before .before .before .loop .r in
+    let inv = c .before .before .before .before .before .loop .inv in
+    let whole : s .result .n - 0 ≡ s .result .n = omega arith in (
+      omega arith,
+      (
+        omega arith,
+        turned-more _ _ _ _ _ _ _ _ (take (s .result .n) (s .result .list)) r (omega arith) (omega (arith, length-take (s .result .n) (s .result .list))) (inv .1 .1)
+            (subst (λ (n : ℕ). NoneBefore (now (st .args .nums)) (h .target) (h .rest) (h .path) (h .len) (h .need) (take n (s .result .list)) r (st .args .k)) whole (c .before .stage .ensures (c .if6 .left))),
+      ),
+    )
+
+node-returns-6 : (t : ℕ) → node-lts.Need-returns-6 (node-claims t) (node-at t) node.Post node-Inv-loop node-μ-loop
+node-returns-6 t c = λ e.
+    let s = c .before .before .before .split in
+    let long = field-length 512 (s .result .list) (s .ok .1 .1 .0 .1 .0 .1) in
+    let few = s .ensures .few in
+    let fit = c .before .before .before .before .before .before .before .before .before .before .fitted .ensures in
+    let room = fit .room in
+    let fewer = fit .few in
+    let i = c .before .before .before .before .before .before .scarce in
+    let f = c .before .before .before .before .before .before .before .before .before .before .fitted in
+    node-none _ _ _ _ _ _ _ _ (f .result .list) (f .result .n) (f .ensures) _ (s .result .list) (s .result .p) (s .result .n) (s .ensures) long (c .before .loop .r) (omega arith) (i .ensures .1 (omega arith)) (omega arith)
+    (c .before .loop .inv .1 .1)
+
+stage-sub-m : (t : ℕ) → stage-lts.Need-sub-m (stage-claims t) (stage-at t) stage.Post
+stage-sub-m t c = search needs
+
+stage-mul-m : (t : ℕ) → stage-lts.Need-mul-m (stage-claims t) (stage-at t) stage.Post
+stage-mul-m t c = search needs
+
+stage-shared-slice-read-m : (t : ℕ) → stage-lts.Need-shared-slice-read-m (stage-claims t) (stage-at t) stage.Post
+stage-shared-slice-read-m t c = search needs
+
+stage-replaced-requires : (t : ℕ) → stage-lts.Need-replaced-requires (stage-claims t) (stage-at t) stage.Post
+stage-replaced-requires t c κs = search needs
+
+stage-returns : (t : ℕ) → stage-lts.Need-returns (stage-claims t) (stage-at t) stage.Post
+stage-returns t c = λ e.
+    let st = c .before .before .before .before .before .before in
+    let q = c .before .replaced in
+    let found = q .ensures (c .if1 .taken) in
+    stage-replaced _ _ _ _ _ _ _ _ _ (st .pre .1 .1 .1 .1 .0) (st .pre .1 .1 .1 .1 .1 .0) (q .result) (c .if1 .taken) (found .0) (found .1)
+
+stage-step-requires : (t : ℕ) → stage-lts.Need-step-requires (stage-claims t) (stage-at t) stage.Post
+stage-step-requires t c κs = search needs
+
+stage-returns-2 : (t : ℕ) → stage-lts.Need-returns-2 (stage-claims t) (stage-at t) stage.Post
+stage-returns-2 t c = λ e.
+    let st = c .before .before .before .before .before .before .before .before .before in
+    stage-passed _ _ _ _ _ _ _ _ _ (st .pre .1 .1 .1 .1 .0) (st .pre .1 .1 .1 .1 .1 .0) _ _ _ _ _ _ (c .before .before .step .ensures) (not-true _ (c .if2 .taken))
+
+stage-sub-node : (t : ℕ) → stage-lts.Need-sub-node (stage-claims t) (stage-at t) stage.Post
+stage-sub-node t c = search needs
+
+stage-part-node-start : (t : ℕ) → stage-lts.Need-part-node-start (stage-claims t) (stage-at t) stage.Post
+stage-part-node-start t c = search needs
+
+stage-part-node-end : (t : ℕ) → stage-lts.Need-part-node-end (stage-claims t) (stage-at t) stage.Post
+stage-part-node-end t c = search needs
+
+stage-sub-node-2 : (t : ℕ) → stage-lts.Need-sub-node-2 (stage-claims t) (stage-at t) stage.Post
+stage-sub-node-2 t c = search needs
+
+stage-node-requires : (t : ℕ) → stage-lts.Need-node-requires (stage-claims t) (stage-at t) stage.Post
+stage-node-requires t c κs =
+    let st = c .before .before .before .before .before .before .before .before .before .before .before in
+    let ok = not-false _ (c .before .before .if2 .left) in
+    let n = c .before .before .before .before .step .ensures .longer ok .1 in
+    let falls = c .before .before .before .before .step .ensures .falls ok in
+    let list = now (st .args .list) in
+    let part = length-take (st .args .r - 0) list in
+    (omega (arith, part), (omega (arith, n), (st .pre .1 .1 .1 .0, omega (arith, part))))
+
+stage-returns-3 : (t : ℕ) → stage-lts.Need-returns-3 (stage-claims t) (stage-at t) stage.Post
+stage-returns-3 t c = λ e.
+    let st = c .before .before .before .before .before .before .before .before .before .before .before .before in
+    let list = now (st .args .list) in
+    let whole : st .args .r - 0 ≡ st .args .r = omega arith in
+    let h = c .before .before .before .before .before .step .result .here in
+    stage-none _ _ _ _ _ _ list (st .args .r) _ (st .pre .1 .1 .1 .1 .0) (st .pre .1 .1 .1 .1 .1 .0) _ _ _ _ _ _ (c .before .before .before .before .before .step .ensures) (not-false _ (c .before .before .before .if2 .left)) (st .pre .1 .0)
+    (subst (λ (n : ℕ). NoneHere (now (st .args .nums)) (h .target) (h .rest) (h .path) (h .len) (h .need) (take n list) (st .args .k - 1)) whole (c .node .ensures e))
+
+pub +node+stage-spec : {M : Type 1} → statement M
++node+stage-spec = close μ-node μ-stage (λ t. node-lts.spec (node-claims t)
+    (node-at t)
+    node.Post
+    node-Inv-loop
+    node-μ-loop
+    (node-array-read-w t)
+    (node-cast-w t)
+    (node-array-read-h t)
+    (node-cast-h t)
+    (node-returns t)
+    (node-mul-if3 t)
+    (node-returns-2 t)
+    (node-mul-if4 t)
+    (node-returns-3 t)
+    (node-fitted-requires t)
+    (node-tally-requires t)
+    (node-scarce-requires t)
+    (node-returns-4 t)
+    (node-split-requires t)
+    (node-loop-holds t)
+    (node-sub-stage t)
+    (node-part-stage-start t)
+    (node-part-stage-end t)
+    (node-stage-requires t)
+    (node-returns-5 t)
+    (node-sub-r t)
+    (node-loop-less t)
+    (node-loop-again t)
+    (node-returns-6 t))
+    λ t. stage-lts.spec (stage-claims t)
+    (stage-at t)
+    stage.Post
+    (stage-sub-m t)
+    (stage-mul-m t)
+    (stage-shared-slice-read-m t)
+    (stage-replaced-requires t)
+    (stage-returns t)
+    (stage-step-requires t)
+    (stage-returns-2 t)
+    (stage-sub-node t)
+    (stage-part-node-start t)
+    (stage-part-node-end t)
+    (stage-sub-node-2 t)
+    (stage-node-requires t)
+    (stage-returns-3 t)

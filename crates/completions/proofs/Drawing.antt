@@ -1,0 +1,121 @@
+-- Lists drawn from others, one mask a turn: those that fit, and then those without a number before those with it.
+use mathlib.Core.Path.{_≡_, sym, subst, _∙_}
+use mathlib.Core.Logic.{_⊎_, inl, inr, ⊎-elim}
+use mathlib.Core.List.{List}
+use Prim.Native.Nat.{ℕ, _+_, _-_, _≤_, _<_}
+use native.Mathlib.Omega.{arith}
+use lib.ListN.{length, getD, set, length-set}
+use Rattle.plane.proofs.Tests.{lt-or-le}
+use Rattle.completions.specs.Completing.{Among, Fit, numberIn}
+use Rattle.completions.proofs.Loops.{among-more, among-one, put-kept, put-new, put-was, set-above, set-below}
+
+-- after j of cand: those that fit are the first n of list
+pub record FittedTo (nums need cand list : List ℕ) (n j : ℕ) : Type 0 where
+  pub few : n ≤ j
+  pub long : length list ≡ 512
+  pub all : (m : ℕ) → m < 512 → Among cand j m → Fit (numberIn nums) need m → Among list n m
+  pub only : (m : ℕ) → Among list n m → Among cand j m
+
+module _ (nums need cand : List ℕ) where
+  pub fitted-none : (list : List ℕ) → length list ≡ 512 → FittedTo nums need cand list 0 0
+  fitted-none list l = record { few = omega arith; long = l; all = λ m b a f. let c = a .before in absurd (omega arith); only = λ m a. let c = a .before in absurd (omega arith) }
+
+  pub fitted-more : (list : List ℕ) (n j k v : ℕ) → j < 512 → v ≡ getD cand j 0 → k ≤ 1 → (v < 512 → Fit (numberIn nums) need v → 1 ≤ k)
+      → FittedTo nums need cand list n j → FittedTo nums need cand (set list n v) (n + k) (j + 1)
+  fitted-more list n j k v l e one fit h =
+      let few = h .few in
+      let long = h .long in
+      record {
+        few = omega arith;
+        long = length-set list n v ∙ long;
+        all = λ m b a f. ⊎-elim
+            (λ w. put-kept list n k v m (h .all m b w f))
+            (λ w. let d : m ≡ v = w ∙ sym e in
+            subst (λ (s : ℕ). Among (set list n v) (n + k) s) (sym d) (put-new list n k v (omega arith) (fit (subst (λ (s : ℕ). s < 512) d b) (subst (Fit (numberIn nums) need) d f))))
+            (among-one cand j m a);
+        only = λ m a. ⊎-elim
+            (λ w. among-more cand j (j + 1) m (omega arith) (h .only m w))
+            (λ w. record { at = j; before = omega arith; is = sym e ∙ sym (w .1) })
+            (put-was list n k v m (omega arith) one a);
+      }
+
+-- after j of the first n of xs: those without number i are the first p of list, and those with it the first q of other
+pub record SplitTo (nums xs : List ℕ) (i : ℕ) (list other : List ℕ) (p q j : ℕ) : Type 0 where
+  pub few : p + q ≤ j
+  pub list-long : length list ≡ 512
+  pub other-long : length other ≡ 512
+  pub all : (m : ℕ) → m < 512 → Among xs j m → Among list p m ⊎ Among other q m
+  pub only : (m : ℕ) → Among list p m ⊎ Among other q m → Among xs j m
+  pub without : (m : ℕ) → m < 512 → Among list p m → numberIn nums i m ≡ 0
+
+module _ (nums xs : List ℕ) (i : ℕ) where
+  pub split-none : (list other : List ℕ) → length list ≡ 512 → length other ≡ 512 → SplitTo nums xs i list other 0 0 0
+  split-none list other l o = record {
+    few = omega arith;
+    list-long = l;
+    other-long = o;
+    all = λ m b a. let c = a .before in absurd (omega arith);
+    only = λ m a. ⊎-elim (λ w. let c = w .before in absurd (omega arith)) (λ w. let c = w .before in absurd (omega arith)) a;
+    without = λ m b a. let c = a .before in absurd (omega arith);
+  }
+
+  -- k is 1 where v has the number, and 0 where it has not
+  pub split-more : (list other : List ℕ) (p q j k v : ℕ) → j < 512 → v ≡ getD xs j 0 → k ≤ 1 → (k ≡ 0 → v < 512 → numberIn nums i v ≡ 0)
+      → SplitTo nums xs i list other p q j → SplitTo nums xs i (set list p v) (set other q v) (p + (1 - k)) (q + k) (j + 1)
+  split-more list other p q j k v l e one zero-of h =
+      let few = h .few in
+      let ll = h .list-long in
+      let ol = h .other-long in
+      record {
+        few = omega arith;
+        list-long = length-set list p v ∙ ll;
+        other-long = length-set other q v ∙ ol;
+        all = λ m b a. ⊎-elim
+            (λ w. ⊎-elim (λ u. inl (put-kept list p (1 - k) v m u)) (λ u. inr (put-kept other q k v m u)) (h .all m b w))
+            (λ w. let d : m ≡ v = w ∙ sym e in ⊎-elim
+            (λ (u : k < 1). inl (subst (λ (s : ℕ). Among (set list p v) (p + (1 - k)) s) (sym d) (put-new list p (1 - k) v (omega arith) (omega arith))))
+            (λ (u : 1 ≤ k). inr (subst (λ (s : ℕ). Among (set other q v) (q + k) s) (sym d) (put-new other q k v (omega arith) u)))
+            (lt-or-le k 1))
+            (among-one xs j m a);
+        only = λ m a. ⊎-elim
+            (λ w. ⊎-elim (λ u. among-more xs j (j + 1) m (omega arith) (h .only m (inl u))) (λ u. last m (u .1)) (put-was list p (1 - k) v m (omega arith) (omega arith) w))
+            (λ w. ⊎-elim (λ u. among-more xs j (j + 1) m (omega arith) (h .only m (inr u))) (λ u. last m (u .1)) (put-was other q k v m (omega arith) one w))
+            a;
+        without = λ m b a. ⊎-elim
+            (h .without m b)
+            (λ u. let g = u .0 in let d = u .1 in
+            subst (λ (s : ℕ). numberIn nums i s ≡ 0) (sym d) (zero-of (omega arith) (subst (λ (s : ℕ). s < 512) d b)))
+            (put-was list p (1 - k) v m (omega arith) (omega arith) a);
+      }
+    where
+      last : (m : ℕ) → m ≡ v → Among xs (j + 1) m
+      last m d = record { at = j; before = omega arith; is = sym e ∙ sym d }
+
+-- after t of other behind the p of list
+pub record JoinedTo (list₀ list other : List ℕ) (p t : ℕ) : Type 0 where
+  pub long : length list ≡ 512
+  pub first : (m : ℕ) → Among list₀ p m → Among list p m
+  pub back : (m : ℕ) → Among list p m → Among list₀ p m
+  pub behind : (m : ℕ) → Among other t m → Among list (p + t) m
+  pub only : (m : ℕ) → Among list (p + t) m → Among list₀ p m ⊎ Among other t m
+
+module _ (list₀ other : List ℕ) (p : ℕ) where
+  pub joined-none : length list₀ ≡ 512 → JoinedTo list₀ list₀ other p 0
+  joined-none l = record { long = l; first = λ m a. a; back = λ m a. a; behind = λ m a. let c = a .before in absurd (omega arith); only = λ m a. inl (among-more list₀ (p + 0) p m (omega arith) a) }
+
+  pub joined-more : (list : List ℕ) (t : ℕ) → p + t < 512 → JoinedTo list₀ list other p t → JoinedTo list₀ (set list (p + t) (getD other t 0)) other p (t + 1)
+  joined-more list t l h = record {
+    long = length-set list (p + t) (getD other t 0) ∙ h .long;
+    first = λ m a. set-above list p (p + t) (getD other t 0) m (omega arith) (h .first m a);
+    back = λ m a. h .back m (set-below list p (p + t) (getD other t 0) m (omega arith) a);
+    behind = λ m a. let long = h .long in let e : p + t + 1 ≡ p + (t + 1) = omega arith in subst (λ (n : ℕ). Among (set list (p + t) (getD other t 0)) n m) e (⊎-elim
+        (λ w. put-kept list (p + t) 1 (getD other t 0) m (h .behind m w))
+        (λ w. subst (λ (s : ℕ). Among (set list (p + t) (getD other t 0)) (p + t + 1) s) (sym w) (put-new list (p + t) 1 (getD other t 0) (omega arith) (omega arith)))
+        (among-one other t m a));
+    only = λ m a.
+        let long = h .long in
+        ⊎-elim
+        (λ w. ⊎-elim (λ u. inl u) (λ u. inr (among-more other t (t + 1) m (omega arith) u)) (h .only m w))
+        (λ w. inr (record { at = t; before = omega arith; is = sym (w .1) }))
+        (put-was list (p + t) 1 (getD other t 0) m (omega arith) (omega arith) (among-more _ (p + (t + 1)) (p + t + 1) m (omega arith) a));
+  }

@@ -1,0 +1,135 @@
+// A list of masks as a node needs it: those that fit, the number to branch on, and those without that number before those with it.
+use super::numbers;
+ghost use mathlib.Core.Path.{_≡_};
+ghost use mathlib.Core.Bool.{true};
+ghost use Prim.Native.Nat.{_+_, _≤_, _<_};
+ghost use lib.ListN.{length, getD};
+ghost use Rattle.completions.specs.Completing.{Fitting, Split, Joined};
+
+// The first n of a list; those before p are without the number that was asked for.
+pub struct Pool {
+    pub list: [u16; 512],
+    pub p: usize,
+    pub n: usize,
+}
+
+// Those of the list that fit what is needed.
+pub fn fitted(need: [u8; 18], nums: &[u8], cand: &[u16]) -> Pool
+    requires { ⌜ (length (now nums) ≡ 9216) × (length (now cand) ≤ 512) ⌝ }
+    ensures { λ r. ⌜ Fitting (now (nums .entry)) need (now (cand .entry)) (length (now (cand .entry))) (r .list) (r .n) ⌝ }
+{
+    let mut list = [0u16; 512];
+    let mut n: usize = 0;
+    let mut j: usize = 0;
+    while j < cand.len() {
+        let m = cand[j];
+        let k = numbers::fitting(need, nums, m);
+        list[n] = m;
+        n += k;
+        j += 1;
+    }
+    Pool {
+        list: list,
+        p: 0,
+        n: n,
+    }
+}
+
+// The first p of one list and then the first q of the other.
+fn joined(list: [u16; 512], p: usize, other: &[u16; 512], q: usize) -> Pool
+    requires { ⌜ (p + q) ≤ 512 ⌝ }
+    ensures { λ r. ⌜ Joined list p (now (other .entry)) q (r .list) (r .p) (r .n) ⌝ }
+{
+    let mut all = list;
+    let mut t: usize = 0;
+    while t < q {
+        all[p + t] = other[t];
+        t += 1;
+    }
+    Pool {
+        list: all,
+        p: p,
+        n: p + q,
+    }
+}
+
+// The first n of the list, those without number i before those with it.
+pub fn split(nums: &[u8], i: usize, xs: &[u16; 512], n: usize) -> Pool
+    requires { ⌜ (length (now nums) ≡ 9216) × ((i < 18) × (n ≤ 512)) ⌝ }
+    ensures { λ r. ⌜ Split (now (nums .entry)) (now (xs .entry)) n i (r .list) (r .p) (r .n) ⌝ }
+{
+    let mut list = [0u16; 512];
+    let mut other = [0u16; 512];
+    let mut p: usize = 0;
+    let mut q: usize = 0;
+    let mut j: usize = 0;
+    while j < n {
+        let m = xs[j];
+        let k = numbers::having(nums, i, m);
+        list[p] = m;
+        p += 1 - k;
+        other[q] = m;
+        q += k;
+        j += 1;
+    }
+    joined(list, p, &other, q)
+}
+
+// The counts with those of the mask m.
+fn counted(c: [u16; 18], nums: &[u8], m: u16) -> [u16; 18]
+    requires { ⌜ length (now nums) ≡ 9216 ⌝ }
+{
+    let mut r = c;
+    let mut i: usize = 0;
+    while i < 18 {
+        let k = numbers::having(nums, i, m) as u16;
+        r[i] = std::num::wrapping_add_u16(r[i], k);
+        i += 1;
+    }
+    r
+}
+
+// How many of the first n of the list have each number. What is counted only decides which number is branched on.
+pub fn tally(nums: &[u8], xs: &[u16; 512], n: usize) -> [u16; 18]
+    requires { ⌜ (length (now nums) ≡ 9216) × (n ≤ 512) ⌝ }
+{
+    let mut c = [0u16; 18];
+    let mut j: usize = 0;
+    while j < n {
+        let next = counted(c, nums, xs[j]);
+        c = next;
+        j += 1;
+    }
+    c
+}
+
+// Whether number i is needed, and is the first such or fewer have it than have the best so far.
+fn better(need: u8, first: bool, count: u16, few: u16) -> bool
+    ensures { λ r. ⌜ (r ≡ true → 0 < need) ⌝ }
+{
+    if need == 0 {
+        return false;
+    }
+    if first {
+        return true;
+    }
+    count < few
+}
+
+// A number that is needed, of those the one that the fewest have; 18 where none is needed.
+pub fn scarce(need: [u8; 18], count: [u16; 18]) -> usize
+    ensures { λ r. ⌜ (r ≤ 18) × (r < 18 → 0 < getD need r 0) ⌝ }
+{
+    let mut best: usize = 18;
+    let mut few: u16 = 0;
+    let mut i: usize = 0;
+    while i < 18 {
+        let c = count[i];
+        if better(need[i], best == 18, c, few) {
+            best = i;
+            few = c;
+        }
+        i += 1;
+    }
+    best
+}
