@@ -18,7 +18,7 @@ use Rattle.masks.specs.Chain.{Chain, PlanOf, Picked, sumOf, falling, subset}
 use Rattle.masks.specs.Mask.{stage}
 use Rattle.masks.proofs.Bounds.{forced}
 use Rattle.masks.proofs.Reduce.{shorten}
-use Rattle.rows.specs.Cells.{Cells, At, AtSum, Points}
+use Rattle.rows.specs.Cells.{Cells, At, AtSum, Points, chosen}
 use Rattle.rows.proofs.Bridge.{points-same, same-points, sum-points}
 use Rattle.rows.proofs.Sums.{Rows16}
 use Rattle.shapes.specs.Plan.{planWords}
@@ -31,7 +31,7 @@ use Rattle.elements.proofs.Windows.{corner-is}
 use Rattle.shaping.specs.Steps.{StandsFor}
 use Rattle.search.proofs.Answers.{length-chosen}
 use Rattle.search.proofs.Lengths.{at-most-30}
-use Rattle.search.specs.Plans.{SumsTo, Found, Shortest, chosen}
+use Rattle.search.specs.Plans.{SumsTo, Found, Shortest}
 use Rattle.planning.specs.Planning.{PlanWritten, Unplannable}
 use Rattle.planning.proofs.Decided.{picked-fewest}
 use Rattle.planner.specs.Written.{wordsOf, WrittenPlan}

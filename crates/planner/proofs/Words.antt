@@ -8,7 +8,7 @@ use lib.ListN.{length, getD, drop, take, set, length-set, length-map, length-tak
 use lib.Seq.{take-suc, take-length, drop-set-lt}
 use Rattle.words.specs.Word.{headWord, placeWord, stageWord}
 use Rattle.lists.proofs.Written.{Written, written-more}
-use Rattle.search.specs.Plans.{chosen}
+use Rattle.rows.specs.Cells.{chosen}
 use Rattle.search.proofs.Answers.{length-chosen}
 use Rattle.planner.specs.Written.{wordsOf, WrittenPlan}
 

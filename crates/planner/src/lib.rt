@@ -3,7 +3,7 @@
 ghost use Prim.Native.Nat.{_≤_};
 ghost use lib.ListN.{length};
 ghost use Rattle.planning.specs.Planning.{Planned};
-ghost use Rattle.search.specs.Plans.{chosen};
+ghost use Rattle.rows.specs.Cells.{chosen};
 ghost use Rattle.planner.specs.Written.{WrittenPlan};
 use search::Chosen;
 use words::Answer;

@@ -15,10 +15,12 @@ use Rattle.plane.proofs.Tests.{T-and, not-or, not-ltb, clash}
 use Rattle.masks.specs.Chain.{falling, smaller}
 use Rattle.masks.specs.Mask.{stage}
 use Rattle.masks.proofs.Cells.{stage-below}
-use Rattle.rows.specs.Cells.{Cells, Same, Sum, At, AtMask, AtSum}
-use Rattle.search.specs.Plans.{chosen}
-use Rattle.search.specs.Tree.{Completes, Answer, NoneWith, Passed, Below}
-use Rattle.search.proofs.Addition.{same-refl, same-sym, same-trans, sum-both, sum-assoc, sum-origin}
+use Rattle.rows.specs.Cells.{Cells, Same, Sum, At, AtMask, AtSum, chosen}
+use Rattle.search.specs.Tree.{Completes, Answer, NoneWith, Passed}
+use Rattle.search.specs.Asking.{Led}
+use Rattle.completions.specs.Completing.{Among, Ready, Allowed}
+use Rattle.completions.specs.Opening.{Room}
+use Rattle.rows.proofs.Addition.{same-refl, same-sym, same-trans, sum-both, sum-comm, sum-assoc, sum-origin}
 
 -- ---- the stages that an array holds
 
@@ -170,23 +172,24 @@ module _ (permitted : ℕ → Bool) where
           }
 
 -- what the partial sum below says of that above it
-module _ (permitted : ℕ → Bool) (target sum : List ℕ) (w h k m : ℕ) (ok : Bool) (target′ sum′ residue′ : List ℕ) (w′ h′ : ℕ)
-    (b : Below target sum w h (k - 1) m ok target′ sum′ residue′ w′ h′) where
+module _ (permitted : ℕ → Bool) (nums cand target rest path : List ℕ) (len : ℕ) (need : List ℕ) (k m : ℕ) (ok : Bool) (target′ rest′ path′ : List ℕ) (len′ : ℕ) (need′ : List ℕ)
+    (b : Led nums cand target rest path len need (k - 1) m ok target′ rest′ path′ len′ need′) where
+  abbrev Y : Cells
+  Y = AtSum (chosen path len)
+
   -- no list has m first
-  pub below-none : ok ≡ false → ((n : ℕ) → T (permitted n) → T (stage n)) → NoneWith permitted (At target) (At sum) k m
-  below-none e st ns l c = b .no e ns l (stages-of ns (c .stages)) (c .sum)
-    where
-      stages-of : (ns : List ℕ) → T (all permitted ns) → T (all stage ns)
-      stages-of [] t = tt
-      stages-of (n ∷ ns) t = let u = T-and (permitted n) (all permitted ns) .0 t in T-and (stage n) (all stage ns) .1 (st n (u .0), stages-of ns (u .1))
+  pub below-none : ok ≡ false → Room nums cand len (k - 1) → Ready permitted nums target rest path len need → Allowed permitted cand → ((s : ℕ) → T (permitted s) → Among cand (length cand) s)
+      → T (permitted m) → NoneWith permitted (At target) Y k m
+  below-none e room r a every pm ns l c = b .no e room permitted r a every pm ns l (c .stages) (c .sum)
 
-  module _ (e : ok ≡ true) (p : 0 < k) (pm : T (permitted m)) (found : Bool) (masks : List ℕ) (a : Answer permitted (At target′) (At sum′) (k - 1) m found masks) where
-    here : Answer permitted (At target) (At sum′) (k - 1) m found masks
-    here = subst (λ (l : List ℕ). Answer permitted (At l) (At sum′) (k - 1) m found masks) (b .same e) a
+  module _ (e : ok ≡ true) (p : 0 < k) (pm : T (permitted m)) (found : Bool) (masks : List ℕ) (a : Answer permitted (At target′) (AtSum (chosen path′ len′)) (k - 1) m found masks) where
+    here : Answer permitted (At target) (Sum (AtMask m) Y) (k - 1) m found masks
+    here = subst (λ (ms : List ℕ). Answer permitted (At target) (AtSum ms) (k - 1) m found masks) (b .longer e .0)
+        (subst (λ (l : List ℕ). Answer permitted (At l) (AtSum (chosen path′ len′)) (k - 1) m found masks) (b .same e) a)
 
-    pub below-closed : found ≡ false → NoneWith permitted (At target) (At sum) k m
-    below-closed f = none-with permitted (At target) (At sum) k m p pm (At sum′) (b .grown e) masks (subst (λ (d : Bool). Answer permitted (At target) (At sum′) (k - 1) m d masks) f here)
+    pub below-closed : found ≡ false → NoneWith permitted (At target) Y k m
+    below-closed f = none-with permitted (At target) Y k m p pm (Sum (AtMask m) Y) sum-comm masks (subst (λ (d : Bool). Answer permitted (At target) (Sum (AtMask m) Y) (k - 1) m d masks) f here)
 
-    pub below-found : found ≡ true → k ≤ length masks → Answer permitted (At target) (At sum) k m true (set masks (k - 1) m)
+    pub below-found : found ≡ true → k ≤ length masks → Answer permitted (At target) Y k m true (set masks (k - 1) m)
     below-found f room =
-        put-first permitted (At target) (At sum) k m p pm (At sum′) (b .grown e) masks room (subst (λ (d : Bool). Answer permitted (At target) (At sum′) (k - 1) m d masks) f here)
+        put-first permitted (At target) Y k m p pm (Sum (AtMask m) Y) sum-comm masks room (subst (λ (d : Bool). Answer permitted (At target) (Sum (AtMask m) Y) (k - 1) m d masks) f here)

@@ -1,9 +1,9 @@
 -- From the origin: the partial sum that the search starts from, and what the answers for each number of stages say together.
-use mathlib.Core.Path.{_≡_, refl, sym, ap, subst, _∙_}
+use mathlib.Core.Path.{_≡_, refl, sym, subst, _∙_}
 use mathlib.Core.Bool.{Bool, true, false, not, true≢false, false≢true}
 use mathlib.Core.Logic.{⊎-elim}
 use mathlib.Core.List.{List, [], _∷_}
-use Prim.Native.Nat.{ℕ, zero, suc, _+_, _*_, _/_, _≤_, _<_, max, zero-le}
+use Prim.Native.Nat.{ℕ, _+_, _*_, _/_, _≤_, _<_, max, zero-le}
 use native.Mathlib.Nat.{eq-or-lt-of-le}
 use native.Mathlib.Omega.{arith}
 use lib.Dec.{T, ltb}
@@ -17,49 +17,19 @@ use Rattle.masks.proofs.Bounds.{total}
 use Rattle.masks.proofs.Order.{not-before-tied}
 use Rattle.masks.proofs.Reduce.{in-order}
 use Rattle.stages.specs.Reach.{reach}
-use Rattle.rows.specs.Cells.{Cells, Same, Sum, At, AtOrigin, AtSum, bit}
-use Rattle.rows.proofs.RowBits.{bit-past, no-bit}
+use Rattle.rows.specs.Cells.{Cells, Same, Sum, At, AtOrigin, AtSum, chosen}
 use Rattle.rows.proofs.Sums.{Rows16, in-x, in-y, zero-at}
 use Rattle.extents.specs.Extents.{Greatest, NoCell, row, column}
-use Rattle.search.specs.Plans.{SumsTo, Shortest, chosen}
-use Rattle.search.specs.Tree.{Completes, Answer, Kept, tries, Marked}
-use Rattle.search.proofs.Addition.{same-refl, same-sym, same-trans, to-cell, sum-both, sum-comm, sum-origin, sum-cells-same}
+use Rattle.search.specs.Plans.{SumsTo, Shortest}
+use Rattle.search.specs.Tree.{Completes, Answer, tries, Marked}
+use Rattle.rows.proofs.Addition.{same-sym, same-trans, sum-comm, sum-origin, sum-cells-same}
 use Rattle.search.proofs.Answers.{length-chosen}
 use Rattle.search.proofs.Marking.{tried-permitted, all-tried}
 use Rattle.search.proofs.Reaches.{greatest-same, greatest-once, sum-reach, total-reach}
 
--- ---- the partial sum that the search starts from
-
-abbrev pub start : List ℕ
-start = 1 ∷ replicate 15 0
-
-first-bit : (x : ℕ) → bit 1 x ≡ 1 → x ≡ 0
-first-bit x h = ⊎-elim (λ w. omega arith) (λ w. absurd (omega (arith, bit-past 1 1 x (omega arith) w))) (lt-or-le x 1)
-
-start-to : (x y : ℕ) → At start x y → AtOrigin x y
-start-to x zero h = record { at-x = first-bit x h; at-y = refl }
-start-to x (suc y) h = absurd (no-bit x (ap (λ (n : ℕ). bit n x) (sym (zero-at 15 y)) ∙ h))
-
-start-is : Same (At start) AtOrigin
-start-is = record { to = start-to; from = λ x y h. to-cell (At start) {x = 0} {y = 0} (sym (h .at-x)) (sym (h .at-y)) refl }
-
-pub start-kept : (A : List ℕ) (w h : ℕ) → Greatest column (At A) w → Greatest row (At A) h → Kept A start A w h
-start-kept A w h e f = record {
-  left = record {
-    to = λ x y a. record { all = λ i j s. let o = start-to i j s in to-cell (At A) (omega (arith, o .at-x)) (omega (arith, o .at-y)) a };
-    from = λ x y r. to-cell (At A) {x = x + 0} {y = y + 0} (omega arith) (omega arith) (r .all 0 0 refl);
-  };
-  sum-w = 0;
-  sum-wide = record { x = 0; y = 0; cell = refl; at = refl; all = λ x y s. omega (arith, start-to x y s .at-x) };
-  target-wide = subst (Greatest column (At A)) (omega arith) e;
-  sum-h = 0;
-  sum-high = record { x = 0; y = 0; cell = refl; at = refl; all = λ x y s. omega (arith, start-to x y s .at-y) };
-  target-high = subst (Greatest row (At A)) (omega arith) f;
-}
-
--- adding to it changes nothing
-from-start : (ns : List ℕ) → Same (Sum (At start) (AtSum ns)) (AtSum ns)
-from-start ns = same-trans (sum-both start-is same-refl) (same-trans sum-comm sum-origin)
+-- adding to the one cell (0, 0) changes nothing
+pub from-origin : {X : Cells} → Same (Sum AtOrigin X) X
+from-origin = same-trans sum-comm sum-origin
 
 -- ---- extents in the window
 pub wide-in : (A : List ℕ) → Rows16 A → (w : ℕ) → Greatest column (At A) w → w ≤ 15
@@ -75,7 +45,7 @@ module _ (permitted : ℕ → Bool) (sub : (m : ℕ) → T (permitted m) → T (
   stages-of ns S = all-In stage ns (λ m h. sub m (In-all permitted ns (S .masks) m h))
 
   -- how many stages a list has that sums to cells of given extents
-  counts : (A : Cells) (w h : ℕ) → Greatest column A w → Greatest row A h → (ns : List ℕ) → SumsTo permitted A ns → ((max w h + 1) / 2 ≤ length ns) × (length ns ≤ w + h)
+  pub counts : (A : Cells) (w h : ℕ) → Greatest column A w → Greatest row A h → (ns : List ℕ) → SumsTo permitted A ns → ((max w h + 1) / 2 ≤ length ns) × (length ns ≤ w + h)
   counts A w h e f ns S =
       let t = stages-of ns S in
       let r = total-reach ns t in
@@ -95,10 +65,10 @@ module _ (permitted : ℕ → Bool) (sub : (m : ℕ) → T (permitted m) → T (
 
   -- the answers for each number of stages together
   module _ (A : Cells) (marks : List ℕ) (M : Marked permitted A 512 marks) (k : ℕ) (below : NoneBelow A k)
-      (found : Bool) (masks : List ℕ) (a : Answer (tries marks) A (At start) k 0 found masks) where
-    -- what sums to A completes the start to A, with stages that are tried
-    completes : (ns : List ℕ) → SumsTo permitted A ns → T (not (falling ns)) → Completes (tries marks) A (At start) 0 ns
-    completes ns S t = record { stages = all-tried permitted A sub marks M ns S; rising = zero-first ns t; sum = same-trans (S .sum) (same-sym (from-start ns)) }
+      (found : Bool) (masks : List ℕ) (a : Answer (tries marks) A AtOrigin k 0 found masks) where
+    -- what sums to A completes the cell (0, 0) to A, with stages that are tried
+    completes : (ns : List ℕ) → SumsTo permitted A ns → T (not (falling ns)) → Completes (tries marks) A AtOrigin 0 ns
+    completes ns S t = record { stages = all-tried permitted A sub marks M ns S; rising = zero-first ns t; sum = same-trans (S .sum) (same-sym from-origin) }
       where
         zero-first : (ns : List ℕ) → T (not (falling ns)) → T (not (falling (0 ∷ ns)))
         zero-first [] t = tt
@@ -112,7 +82,7 @@ module _ (permitted : ℕ → Bool) (sub : (m : ℕ) → T (permitted m) → T (
       some = λ f. record {
         sums = record {
           masks = all-In permitted L (λ m h. tried-permitted permitted A sub marks M m (In-all (tries marks) L (c .stages) m h));
-          sum = same-trans (c .sum) (from-start L);
+          sum = same-trans (c .sum) from-origin;
         };
         sorted = sorted-of L (c .rising);
         first = λ ns S t. ⊎-elim
@@ -128,7 +98,7 @@ module _ (permitted : ℕ → Bool) (sub : (m : ℕ) → T (permitted m) → T (
         L : List ℕ
         L = chosen masks k
 
-        c : Completes (tries marks) A (At start) 0 L
+        c : Completes (tries marks) A AtOrigin 0 L
         c = a .sound e
 
         sorted-of : (ns : List ℕ) → T (not (falling (0 ∷ ns))) → T (not (falling ns))
@@ -137,7 +107,7 @@ module _ (permitted : ℕ → Bool) (sub : (m : ℕ) → T (permitted m) → T (
 
   -- ---- no list of any length and order
 
-  none-any : (A : Cells) → ((ns : List ℕ) → SumsTo permitted A ns → ⊥) → Shortest permitted A false 0 (replicate 32 0)
+  pub none-any : (A : Cells) → ((ns : List ℕ) → SumsTo permitted A ns → ⊥) → Shortest permitted A false 0 (replicate 32 0)
   none-any A f = record { some = λ e. absurd (false≢true e); none = λ e. f; empty = λ e. refl; past = λ i l. zero-at 32 i }
 
   pub none-found : (A : Cells) (w h k : ℕ) → Greatest column A w → Greatest row A h → NoneBelow A k → w + h < k → Shortest permitted A false 0 (replicate 32 0)

@@ -14,12 +14,11 @@ use Rattle.plane.proofs.Member.{all-In, In-all}
 use Rattle.plane.proofs.Tests.{T-dec, clash, eq-eqb, lt-or-le}
 use Rattle.masks.specs.Mask.{stage}
 use Rattle.masks.proofs.Cells.{stage-below}
-use Rattle.rows.specs.Cells.{Cells, Same, Sum, At, AtMask, AtSum}
-use Rattle.rows.specs.Leaves.{SumOf, ResidueOf}
+use Rattle.rows.specs.Cells.{Cells, Same, Sum, Residue, At, AtMask, AtSum, CutTo}
 use Rattle.rows.proofs.Sums.{Rows16, in-x, in-y, zero-at}
 use Rattle.search.specs.Plans.{SumsTo}
 use Rattle.search.specs.Tree.{tries, Marks, Mark, Marked}
-use Rattle.search.proofs.Addition.{same-refl, same-sym, same-trans, to-cell, add-cells, sum-both, sum-comm, sum-assoc}
+use Rattle.rows.proofs.Addition.{same-refl, same-sym, same-trans, to-cell, add-cells, sum-both, sum-comm, sum-assoc}
 
 -- a sum is the sum of one of its masks and of the others
 split : (m : ℕ) (ns : List ℕ) → In ns m → (rs : List ℕ) × Same (AtSum ns) (Sum (AtSum rs) (AtMask m))
@@ -30,7 +29,7 @@ split m (n ∷ ns) (inr h) =
 
 -- ---- one mask
 
-module _ (A : List ℕ) (wA : Rows16 A) (m : ℕ) (b : List ℕ) (bm : Same (At b) (AtMask m)) (t : List ℕ) (ht : ResidueOf A b t) (c : List ℕ) (hc : SumOf t b c) where
+module _ (A : List ℕ) (wA : Rows16 A) (m : ℕ) (t : List ℕ) (ht : CutTo (Residue (At A) (AtMask m)) t) (c : List ℕ) (hc : CutTo (Sum (At t) (AtMask m)) c) where
   -- what the residue and the mask sum to is in A
   whole-in : (x z : ℕ) → At c x z → At A x z
   whole-in x z h = let s = hc .to x z h in to-cell (At A) (s .at-x) (s .at-y) (ht .to (s .x1) (s .y1) (s .left) .all (s .x2) (s .y2) (s .right))
@@ -39,7 +38,7 @@ module _ (A : List ℕ) (wA : Rows16 A) (m : ℕ) (b : List ℕ) (bm : Same (At 
   pub opens : (permitted : ℕ → Bool) (ns : List ℕ) → SumsTo permitted (At A) ns → In ns m → Same (At A) (At c)
   opens permitted ns S h = record {
     to = λ x z a. let s = e .to x z a in
-        hc .from x z (record { x1 = s .x1; y1 = s .y1; x2 = s .x2; y2 = s .y2; left = in-t (s .x1) (s .y1) (s .left) x z (omega (arith, s .at-x)) (omega (arith, s .at-y)) a; right = bm .from (s .x2) (s .y2) (s .right); at-x = s .at-x; at-y = s .at-y })
+        hc .from x z (record { x1 = s .x1; y1 = s .y1; x2 = s .x2; y2 = s .y2; left = in-t (s .x1) (s .y1) (s .left) x z (omega (arith, s .at-x)) (omega (arith, s .at-y)) a; right = s .right; at-x = s .at-x; at-y = s .at-y })
         (in-x A wA x z a) (in-y A wA x z a);
     from = whole-in;
   }
@@ -53,7 +52,7 @@ module _ (A : List ℕ) (wA : Rows16 A) (m : ℕ) (b : List ℕ) (bm : Same (At 
       -- a cell of the others moves each cell of the mask into A
       in-t : (u v : ℕ) → AtSum rs u v → (x z : ℕ) → u ≤ x → v ≤ z → At A x z → At t u v
       in-t u v k x z p q a =
-          ht .from u v (record { all = λ i j f. e .from (u + i) (v + j) (add-cells u v i j k (bm .to i j f)) })
+          ht .from u v (record { all = λ i j f. e .from (u + i) (v + j) (add-cells u v i j k f) })
           (omega (arith, in-x A wA x z a)) (omega (arith, in-y A wA x z a))
 
 module _ (permitted : ℕ → Bool) (A : Cells) where

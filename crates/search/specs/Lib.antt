@@ -1,2 +1,3 @@
 pub mod Plans
 pub mod Tree
+pub mod Asking

@@ -2,23 +2,18 @@
 -- offset is spoken of.
 use mathlib.Core.Path.{_≡_}
 use mathlib.Core.Bool.{Bool, true, false, not}
-use mathlib.Core.List.{List, [], _∷_}
-use Prim.Native.Nat.{ℕ, zero, suc, _≤_}
+use mathlib.Core.List.{List}
+use Prim.Native.Nat.{ℕ, _≤_}
 use lib.Dec.{T}
 use lib.ListN.{getD}
 use Rattle.plane.specs.Lists.{all}
 use Rattle.masks.specs.Chain.{falling, before}
-use Rattle.rows.specs.Cells.{Cells, Same, AtSum}
+use Rattle.rows.specs.Cells.{Cells, Same, AtSum, chosen}
 
 -- ms are permitted masks, in any order, whose sum is A
 pub record SumsTo (permitted : ℕ → Bool) (A : Cells) (ms : List ℕ) : Type 0 where
   pub masks : T (all permitted ms)
   pub sum : Same A (AtSum ms)
-
--- the n stages that an array holds from its start, the first of them at n − 1
-unfoldable pub chosen : List ℕ → ℕ → List ℕ
-chosen masks zero = []
-chosen masks (suc n) = getD masks n 0 ∷ chosen masks n
 
 -- the plan that is picked was found: its stages never fall and sum to A, and no list of permitted stages that never falls and sums to A comes before it
 pub record Found (permitted : ℕ → Bool) (A : Cells) (ms : List ℕ) : Type 0 where

@@ -2,15 +2,14 @@
 use mathlib.Core.Path.{_≡_}
 use mathlib.Core.Bool.{Bool, true, false, not}
 use mathlib.Core.List.{List, _∷_}
-use Prim.Native.Nat.{ℕ, _+_, _-_, _≤_, _<_}
+use Prim.Native.Nat.{ℕ, _-_, _≤_, _<_}
 use lib.Dec.{T, eqb}
 use lib.ListN.{getD, length}
 use Rattle.plane.specs.Lists.{all, In}
 use Rattle.masks.specs.Chain.{falling, smaller}
 use Rattle.masks.specs.Mask.{stage}
-use Rattle.rows.specs.Cells.{Cells, Same, Sum, Residue, At, AtMask, AtSum}
-use Rattle.extents.specs.Extents.{Greatest, row, column}
-use Rattle.search.specs.Plans.{SumsTo, chosen}
+use Rattle.rows.specs.Cells.{Cells, Same, Sum, AtMask, AtSum, chosen}
+use Rattle.search.specs.Plans.{SumsTo}
 
 -- ms are permitted stages, none below m and none below the one before it, and complete Y to A
 pub record Completes (permitted : ℕ → Bool) (A Y : Cells) (m : ℕ) (ms : List ℕ) : Type 0 where
@@ -33,26 +32,6 @@ NoneWith permitted A Y k m = (ns : List ℕ) → length ns ≡ k - 1 → Complet
 pub record Passed (permitted : ℕ → Bool) (A Y : Cells) (k m i : ℕ) : Type 0 where
   pub from : m ≤ i
   pub later : (ns : List ℕ) → length ns ≡ k → Completes permitted A Y m ns → Completes permitted A Y i ns
-
--- ---- a partial sum
-
--- what is kept of a partial sum: the residue is the target less the sum, and w and h are what the sum's extents lack of the target's
-pub record Kept (target sum residue : List ℕ) (w h : ℕ) : Type 0 where
-  pub left : Same (At residue) (Residue (At target) (At sum))
-  pub sum-w : ℕ
-  pub sum-wide : Greatest column (At sum) sum-w
-  pub target-wide : Greatest column (At target) (sum-w + w)
-  pub sum-h : ℕ
-  pub sum-high : Greatest row (At sum) sum-h
-  pub target-high : Greatest row (At target) (sum-h + h)
-
--- the partial sum below by the stage m, with j stages after it, or that no j stages lead on from there
-pub record Below (target sum : List ℕ) (w h j m : ℕ) (ok : Bool) (target′ sum′ residue′ : List ℕ) (w′ h′ : ℕ) : Type 0 where
-  pub grown : ok ≡ true → Same (At sum′) (Sum (At sum) (AtMask m))
-  pub same : ok ≡ true → target′ ≡ target
-  pub kept : ok ≡ true → Kept target′ sum′ residue′ w′ h′
-  pub shrinks : ok ≡ true → w′ + h′ < w + h
-  pub no : ok ≡ false → (ns : List ℕ) → length ns ≡ j → T (all stage ns) → Same (At target) (Sum (Sum (At sum) (AtMask m)) (AtSum ns)) → ⊥
 
 -- ---- which masks are tried at all
 

@@ -1,28 +1,21 @@
 // The search for the fewest stages: `shortest` answers for any set of cells the plan that document 01 picks, or that there is none.
-// `node` and `stage` call each other: a partial sum tries each stage, and each stage tried opens the sum below it.
+// `node` and `stage` call each other: a partial sum tries each stage, and each stage tried opens the sum below it. Before a sum is opened the quick search is asked
+// whether anything can complete it. `marks` has what the search starts with.
+mod marks;
+
+use completions::Child;
+use completions::Here;
 ghost use mathlib.Core.Path.{_≡_};
 ghost use mathlib.Core.Bool.{true, false};
-ghost use Prim.Native.Nat.{ℕ, _+_, _*_, _≤_, _<_, max, _/_};
-ghost use lib.Dec.{T};
+ghost use Prim.Native.Nat.{ℕ, _+_, _≤_, _<_, max, _/_};
+ghost use lib.Dec.{T, ltb};
+ghost use lib.ListN.{length, getD};
 ghost use Rattle.masks.specs.Mask.{stage as isStage};
-ghost use Rattle.rows.specs.Cells.{At};
+ghost use Rattle.rows.specs.Cells.{At, AtOrigin, AtSum, chosen};
 ghost use Rattle.extents.specs.Extents.{Greatest, row, column};
 ghost use Rattle.search.specs.Plans.{Shortest};
-ghost use Rattle.search.specs.Tree.{Answer, NoneWith, Kept, Below, tries, Marks, Mark, Marked};
-
-// A partial sum: the target, the sum of the stages so far, the residue target ⊖ sum, and what the sum's extents lack of the target's.
-struct State {
-    target: [u16; 16],
-    sum: [u16; 16],
-    residue: [u16; 16],
-    w: usize,
-    h: usize,
-}
-
-struct Child {
-    ok: bool,
-    state: State,
-}
+ghost use Rattle.search.specs.Tree.{Answer, NoneWith, tries, Marked};
+ghost use Rattle.search.specs.Asking.{Questioned, Kept, Led};
 
 // Stages that complete a partial sum, the first of k at k − 1.
 struct Line {
@@ -37,88 +30,50 @@ pub struct Chosen {
     pub masks: [u16; 32],
 }
 
-// Whether a stage of extents mw and mh, with j stages after it, can be among stages of extents w and h in all: each stage adds at most 2 to
-// either extent, and at least 1 to both together.
-fn fits(w: usize, h: usize, mw: usize, mh: usize, j: usize) -> bool
-    requires { ⌜ j < 32 ⌝ }
-    ensures yes { λ r. ⌜ (r ≡ true → (mw ≤ w) × (mh ≤ h)) ⌝ }
-    ensures no { λ r. ⌜ (r ≡ false → (a b : ℕ) → w ≡ mw + a → h ≡ mh + b → a ≤ 2 * j → b ≤ 2 * j → j ≤ a + b → ⊥) ⌝ }
+// Whether j stages are more than the width and the height that are needed: each adds at least 1 to one of them.
+fn too_many(need: [u8; 18], j: usize) -> bool
+    ensures { λ r. ⌜ r ≡ ltb (getD need 16 0 + getD need 17 0) j ⌝ }
 {
-    if w < mw {
-        return false;
-    }
-    if h < mh {
-        return false;
-    }
-    if 2 * j < w - mw {
-        return false;
-    }
-    if 2 * j < h - mh {
-        return false;
-    }
-    if w - mw < j {
-        return j - (w - mw) <= h - mh;
-    }
-    true
+    let w = need[16] as usize;
+    let h = need[17] as usize;
+    w + h < j
 }
 
-// The partial sum below s by the stage m, with j stages after it. It is passed over where the extents cannot be met, or where the target differs from
-// (target ⊖ sum) ⊕ sum.
-fn tried(s: State, j: usize, m: u16) -> Child
-    requires { ⌜ (j < 32) × (T (isStage m) × Kept (s .target) (s .sum) (s .residue) (s .w) (s .h)) ⌝ }
-    ensures { λ r. ⌜ Below (s .target) (s .sum) (s .w) (s .h) j m (r .ok) (r .state .target) (r .state .sum) (r .state .residue) (r .state .w) (r .state .h) ⌝ }
+// The partial sum below by the stage m, with j stages after it. It is passed over where the extents that are needed are fewer than the stages left, or where the
+// quick search says that nothing completes it.
+fn tried(here: Here, nums: &[u8], cand: &[u16], j: usize, m: u16) -> Child
+    ensures { λ r. ⌜ Led (now (nums .entry)) (now (cand .entry)) (here .target) (here .rest) (here .path) (here .len) (here .need) j m (r .ok) (r .here .target) (r .here .rest) (r .here .path) (r .here .len) (r .here .need) ⌝ }
 {
-    let none = Child {
-        ok: false,
-        state: s,
-    };
-    let w = s.w;
-    let h = s.h;
-    let mw = stages::reach(m as u32, false) as usize;
-    let mh = stages::reach(m as u32, true) as usize;
-    if !fits(w, h, mw, mh, j) {
-        return none;
+    let c = completions::opened(here, nums, cand, m, j);
+    if !c.ok {
+        return c;
     }
-    let a = s.target;
-    let y = s.sum;
-    let t = s.residue;
-    let b = rows::mask_rows(m);
-    let residue = rows::residue_of(t, b);
-    let sum = rows::sum_of(y, b);
-    let whole = rows::sum_of(sum, residue);
-    if rows::same(a, whole) {
-        Child {
-            ok: true,
-            state: State {
-                target: a,
-                sum: sum,
-                residue: residue,
-                w: w - mw,
-                h: h - mh,
-            },
-        }
-    } else {
-        none
+    let below = c.here;
+    let need = below.need;
+    if too_many(need, j) {
+        return Child {
+            ok: false,
+            here: here,
+        };
     }
+    c
 }
 
-// The first list of k stages, none below m, that completes the sum of s to its target.
-fn node(s: State, marks: &[u8], k: usize, m: u16) -> Line
-    requires { ⌜ (k ≤ 30) × ((m ≤ 512) × (Marks (now marks) × Kept (s .target) (s .sum) (s .residue) (s .w) (s .h))) ⌝ }
-    ensures { λ r. ⌜ Answer (tries (now (marks .entry))) (At (s .target)) (At (s .sum)) k m (r .found) (r .masks) ⌝ }
+// The first list of k stages, none below m, that completes the sum to its target.
+fn node(here: Here, marks: &[u8], nums: &[u8], cand: &[u16], k: usize, m: u16) -> Line
+    requires { ⌜ (m ≤ 512) × Kept (now marks) (now nums) (now cand) (here .target) (here .rest) (here .path) (here .len) (here .need) k ⌝ }
+    ensures { λ r. ⌜ Answer (tries (now (marks .entry))) (At (here .target)) (AtSum (chosen (here .path) (here .len))) k m (r .found) (r .masks) ⌝ }
 {
     if k == 0 {
-        let a = s.target;
-        let y = s.sum;
         return Line {
-            found: rows::same(a, y),
+            found: completions::finished(here),
             masks: [0; 32],
         };
     }
     let mut i = m;
     while i < 512 {
         if marks[i as usize] == 1 {
-            let p = stage(s, marks, k, i);
+            let p = stage(here, marks, nums, cand, k, i);
             if p.found {
                 return p;
             }
@@ -132,53 +87,27 @@ fn node(s: State, marks: &[u8], k: usize, m: u16) -> Line
 }
 
 // The same with m itself as the first of the k stages.
-fn stage(s: State, marks: &[u8], k: usize, m: u16) -> Line
-    requires { ⌜ (0 < k) × ((k ≤ 30) × (T (tries (now marks) m) × (Marks (now marks) × Kept (s .target) (s .sum) (s .residue) (s .w) (s .h)))) ⌝ }
-    ensures yes { λ r. ⌜ (r .found ≡ true → Answer (tries (now (marks .entry))) (At (s .target)) (At (s .sum)) k m true (r .masks)) ⌝ }
-    ensures no { λ r. ⌜ (r .found ≡ false → NoneWith (tries (now (marks .entry))) (At (s .target)) (At (s .sum)) k m) ⌝ }
+fn stage(here: Here, marks: &[u8], nums: &[u8], cand: &[u16], k: usize, m: u16) -> Line
+    requires { ⌜ (0 < k) × (T (tries (now marks) m) × Kept (now marks) (now nums) (now cand) (here .target) (here .rest) (here .path) (here .len) (here .need) k) ⌝ }
+    ensures yes { λ r. ⌜ (r .found ≡ true → Answer (tries (now (marks .entry))) (At (here .target)) (AtSum (chosen (here .path) (here .len))) k m true (r .masks)) ⌝ }
+    ensures no { λ r. ⌜ (r .found ≡ false → NoneWith (tries (now (marks .entry))) (At (here .target)) (AtSum (chosen (here .path) (here .len))) k m) ⌝ }
 {
     let none = Line {
         found: false,
         masks: [0; 32],
     };
-    let c = tried(s, k - 1, m);
+    let c = tried(here, nums, cand, k - 1, m);
     if !c.ok {
         return none;
     }
-    let t = c.state;
-    let below = node(t, marks, k - 1, m);
+    let t = c.here;
+    let below = node(t, marks, nums, cand, k - 1, m);
     if !below.found {
         return none;
     }
     let mut p = below;
     p.masks[k - 1] = m;
     p
-}
-
-// 1 for a stage that leaves the cells equal to (cells ⊖ m) ⊕ m, as each stage of a plan of them does; else 0.
-fn mark(cells: [u16; 16], m: u16) -> u8
-    ensures { λ r. ⌜ Mark isStage (At cells) m r ⌝ }
-{
-    if !stages::is_stage(m as u32) {
-        return 0;
-    }
-    let b = rows::mask_rows(m);
-    let t = rows::residue_of(cells, b);
-    let whole = rows::sum_of(t, b);
-    if rows::same(cells, whole) { 1 } else { 0 }
-}
-
-// The marks of all masks.
-fn marked(cells: [u16; 16]) -> [u8; 512]
-    ensures { λ r. ⌜ Marked isStage (At cells) 512 r ⌝ }
-{
-    let mut marks = [0u8; 512];
-    let mut m: u16 = 0;
-    while m < 512 {
-        marks[m as usize] = mark(cells, m);
-        m += 1;
-    }
-    marks
 }
 
 // Half the greater extent, rounded up: no plan has fewer stages.
@@ -192,23 +121,51 @@ fn least_count(w: usize, h: usize) -> usize
     (w + 1) / 2
 }
 
-// The shortest plan of cells whose extents from 0 are w and h: lists of one length after the other, up to w + h.
-fn deepening(cells: [u16; 16], w: usize, h: usize) -> Chosen
-    requires { ⌜ (w ≤ 15) × ((h ≤ 15) × (Greatest column (At cells) w × Greatest row (At cells) h)) ⌝ }
+// The first list of k stages that sums to the cells. The quick search is asked first whether there may be one.
+fn of_length(
+    cells: [u16; 16],
+    marks: &[u8],
+    need: [u8; 18],
+    nums: &[u8],
+    cand: &[u16],
+    k: usize,
+) -> Line
+    requires { ⌜ (k ≤ 30) × Questioned (now marks) cells need (now nums) (now cand) ⌝ }
+    ensures { λ r. ⌜ Answer (tries (now (marks .entry))) (At cells) AtOrigin k 0 (r .found) (r .masks) ⌝ }
+{
+    if !completions::may_sum(cells, need, nums, cand, k) {
+        return Line {
+            found: false,
+            masks: [0; 32],
+        };
+    }
+    let path = [0u16; 32];
+    let here = Here {
+        target: cells,
+        rest: cells,
+        path: path,
+        len: 0,
+        need: need,
+    };
+    node(here, marks, nums, cand, k, 0)
+}
+
+// The shortest plan of cells, some list of w + h stages or fewer perhaps being one: lists of one length after the other, up to w + h.
+fn by_length(
+    cells: [u16; 16],
+    w: usize,
+    h: usize,
+    marks: &[u8],
+    need: [u8; 18],
+    nums: &[u8],
+    cand: &[u16],
+) -> Chosen
+    requires { ⌜ (w ≤ 15) × ((h ≤ 15) × ((Greatest column (At cells) w × Greatest row (At cells) h) × (Marked isStage (At cells) 512 (now marks) × Questioned (now marks) cells need (now nums) (now cand)))) ⌝ }
     ensures { λ r. ⌜ Shortest isStage (At cells) (r .found) (r .n) (r .masks) ⌝ }
 {
-    let marks = marked(cells);
-    let origin = [1u16, 0, 0, 0, 0, 0, 0, 0, 0, 0, 0, 0, 0, 0, 0, 0];
-    let s = State {
-        target: cells,
-        sum: origin,
-        residue: cells,
-        w: w,
-        h: h,
-    };
     let mut k = least_count(w, h);
     while k <= w + h {
-        let p = node(s, &marks, k, 0);
+        let p = of_length(cells, marks, need, nums, cand, k);
         if p.found {
             let masks = p.masks;
             return Chosen {
@@ -226,16 +183,43 @@ fn deepening(cells: [u16; 16], w: usize, h: usize) -> Chosen
     }
 }
 
-// The fewest stages that sum to the cells, of several such lists the first in order, or that no list of stages does.
-pub fn shortest(cells: [u16; 16]) -> Chosen
+// The shortest plan of cells whose extents from 0 are w and h. The quick search is asked first whether there is one at all.
+fn deepening(cells: [u16; 16], w: usize, h: usize) -> Chosen
+    requires { ⌜ (w ≤ 15) × ((h ≤ 15) × (Greatest column (At cells) w × Greatest row (At cells) h)) ⌝ }
     ensures { λ r. ⌜ Shortest isStage (At cells) (r .found) (r .n) (r .masks) ⌝ }
 {
-    if extents::empty(cells) {
+    let marked = marks::marked(cells);
+    let d = marks::listed(&marked);
+    let list = d.list;
+    let n = d.n;
+    let mut nums = [0u8; 9216];
+    marks::tabled(&marked, &mut nums);
+    let need = edges::numbers(cells, 16);
+    if !completions::may_sum(cells, need, &nums, &list[0..n], w + h) {
         return Chosen {
             found: false,
             n: 0,
             masks: [0; 32],
         };
+    }
+    by_length(cells, w, h, &marked, need, &nums, &list[0..n])
+}
+
+// The fewest stages that sum to the cells, of several such lists the first in order, or that no list of stages does. Where a face of the cells is none that a sum
+// can have, nothing is searched.
+pub fn shortest(cells: [u16; 16]) -> Chosen
+    ensures { λ r. ⌜ Shortest isStage (At cells) (r .found) (r .n) (r .masks) ⌝ }
+{
+    let none = Chosen {
+        found: false,
+        n: 0,
+        masks: [0; 32],
+    };
+    if extents::empty(cells) {
+        return none;
+    }
+    if !faces::may_be_sum(cells) {
+        return none;
     }
     let w = extents::last_column(cells) as usize;
     let h = extents::last_row(cells);

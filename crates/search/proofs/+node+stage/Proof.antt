@@ -2,6 +2,7 @@
 -- The invariant of node's loop: of k stages from m on, what completes the sum has none below `i`.
 use borrow.Author.Needs.{needs}
 use borrow.Author.Tests.{not-true, not-false}
+use denote.Ref.{now}
 use mathlib.Core.Path.{_≡_, sym, subst, _∙_}
 use mathlib.Core.Bool.{Bool, true≢false, false≢true}
 use mathlib.Core.Logic.{⊎-elim}
@@ -10,7 +11,7 @@ use lib.Dec.{eqb→eq}
 use lib.ListN.{length, getD}
 use Rattle.plane.proofs.Tests.{eq-eqb}
 use Rattle.masks.proofs.Cells.{stage-below as mask-below}
-use Rattle.rows.specs.Cells.{At}
+use Rattle.rows.specs.Cells.{At, AtSum, chosen}
 use Rattle.rows.proofs.Known.{field-length}
 use Rattle.rows.proofs.Sums.{zero-at}
 use Rattle.search.specs.Tree.{Answer, Passed, tries}
@@ -24,77 +25,82 @@ use Rattle.search.proofs.+node+stage.Lts-node as node-lts
 use Rattle.search.proofs.stage.Reads as stage
 use Rattle.search.proofs.stage.Kinds as stage-kinds
 use Rattle.search.proofs.+node+stage.Lts-stage as stage-lts
-use Rattle.rows.proofs.same.Reads as same-reads
+use Rattle.completions.proofs.finished.Reads as finished-reads
 use Rattle.search.proofs.tried.Reads as tried-reads
 use Rattle.search.proofs.+node+stage.{statement}
 use Rattle.search.proofs.+node+stage.Tie.{close}
 
-abbrev μ-node : Measures 1 node-kinds.ps ℕ
-μ-node κs a = (a .0 .w + a .0 .h + (512 - a .1 .1 .1 .0)) * 2 + 1
+abbrev μ-node : Measures 3 node-kinds.ps ℕ
+μ-node κs a = (getD (a .0 .need) 16 0 + getD (a .0 .need) 17 0 + (512 - a .1 .1 .1 .1 .1 .0)) * 2 + 1
 
-abbrev μ-stage : Measures 1 stage-kinds.ps ℕ
-μ-stage κs a = (a .0 .w + a .0 .h + (512 - a .1 .1 .1 .0)) * 2
+abbrev μ-stage : Measures 3 stage-kinds.ps ℕ
+μ-stage κs a = (getD (a .0 .need) 16 0 + getD (a .0 .need) 17 0 + (512 - a .1 .1 .1 .1 .1 .0)) * 2
 
-abbrev node-at : ℕ → In 1 node-kinds.ps
-node-at t = and 1 node-kinds.ps (is 1 node-kinds.ps μ-node t) node.Pre
+abbrev node-at : ℕ → In 3 node-kinds.ps
+node-at t = and 3 node-kinds.ps (is 3 node-kinds.ps μ-node t) node.Pre
 
-abbrev node-below : ℕ → In 1 node-kinds.ps
-node-below t = and 1 node-kinds.ps (falls 1 node-kinds.ps _<_ μ-node t) node.Pre
+abbrev node-below : ℕ → In 3 node-kinds.ps
+node-below t = and 3 node-kinds.ps (falls 3 node-kinds.ps _<_ μ-node t) node.Pre
 
-abbrev stage-at : ℕ → In 1 stage-kinds.ps
-stage-at t = and 1 stage-kinds.ps (is 1 stage-kinds.ps μ-stage t) stage.Pre
+abbrev stage-at : ℕ → In 3 stage-kinds.ps
+stage-at t = and 3 stage-kinds.ps (is 3 stage-kinds.ps μ-stage t) stage.Pre
 
-abbrev stage-below : ℕ → In 1 stage-kinds.ps
-stage-below t = and 1 stage-kinds.ps (falls 1 stage-kinds.ps _<_ μ-stage t) stage.Pre
+abbrev stage-below : ℕ → In 3 stage-kinds.ps
+stage-below t = and 3 stage-kinds.ps (falls 3 stage-kinds.ps _<_ μ-stage t) stage.Pre
 
 abbrev node-claims : ℕ → node-lts.Claims
-node-claims t = (same-reads.Asked, same-reads.Learnt, stage-below t, stage.Post)
+node-claims t = (finished-reads.Asked, finished-reads.Learnt, stage-below t, stage.Post)
 
 abbrev stage-claims : ℕ → stage-lts.Claims
 stage-claims t = (tried-reads.Asked, tried-reads.Learnt, node-below t, node.Post)
 
 abbrev node-Inv-loop : node-lts.InvT-loop
-node-Inv-loop s marks k m i₀ i = (i ≤ 512) × Passed (tries marks) (At (s .target)) (At (s .sum)) k m i
+node-Inv-loop here marks nums cand k m i₀ i = (i ≤ 512) × Passed (tries marks) (At (here .target)) (AtSum (chosen (here .path) (here .len))) k m i
 
 abbrev node-μ-loop : node-lts.MeasureT-loop
-node-μ-loop s marks k m i₀ i = 512 - i
+node-μ-loop here marks nums cand k m i₀ i = 512 - i
 
-node-same-requires : (t : ℕ) → node-lts.Need-same-requires (node-claims t) (node-at t) node.Post node-Inv-loop node-μ-loop
-node-same-requires t c κs = search needs
+node-finished-requires : (t : ℕ) → node-lts.Need-finished-requires (node-claims t) (node-at t) node.Post node-Inv-loop node-μ-loop
+node-finished-requires t c κs = search needs
 
 node-returns : (t : ℕ) → node-lts.Need-returns (node-claims t) (node-at t) node.Post node-Inv-loop node-μ-loop
 node-returns t c =
     let st = c .before .before .before .before .before in
-    at-leaf (tries (st .args .marks .now)) (At (st .args .s .target)) (At (st .args .s .sum)) (st .args .k) (st .args .m) (c .same .result) _
-    (c .before .before .before .if1 .taken) (c .same .ensures .0) (c .same .ensures .1) (zero-at 32)
+    let h = st .args .here in
+    let kept = st .pre .1 .1 in
+    let room = kept .room in
+    let left = kept .state .state .left in
+    at-leaf (tries (now (st .args .marks))) (At (h .target)) (AtSum (chosen (h .path) (h .len))) (st .args .k) (st .args .m) (c .finished .result) _
+    (c .before .if1 .taken) (λ e. c .finished .ensures .whole e left) (λ e. c .finished .ensures .part e (omega arith) left) (zero-at 32)
 
 node-loop-holds : (t : ℕ) → node-lts.Need-loop-holds (node-claims t) (node-at t) node.Post node-Inv-loop node-μ-loop
 node-loop-holds t c =
-    let st = c .before .before in
-    (omega arith, passed-none _ _ _ (st .args .k) (st .args .m) (omega arith))
+    let st = c .before .before .before .before in
+    (st .pre .1 .0, passed-none _ _ _ (st .args .k) (st .args .m) (omega arith))
 
 node-cast-if2 : (t : ℕ) → node-lts.Need-cast-if2 (node-claims t) (node-at t) node.Post node-Inv-loop node-μ-loop
 node-cast-if2 t c = search needs
 
 node-shared-slice-read-if2 : (t : ℕ) → node-lts.Need-shared-slice-read-if2 (node-claims t) (node-at t) node.Post node-Inv-loop node-μ-loop
 node-shared-slice-read-if2 t c =
-    let st = c .before .before .before .before .before in
-    let l = st .pre .1 .1 .1 .0 .room in
+    let st = c .before .before .before .before .before .before .before in
+    let l = st .pre .1 .1 .pool .marked .room in
     omega arith
 
 node-stage-requires : (t : ℕ) → node-lts.Need-stage-requires (node-claims t) (node-at t) node.Post node-Inv-loop node-μ-loop
 node-stage-requires t c κs =
-    let st = c .before .before .before .before .before .before in
+    let st = c .before .before .before .before .before .before .before .before in
     let l = c .before .before .before .loop in
     let f = l .inv .1 .from in
-    (omega arith, (omega arith, (omega arith, (eq-eqb (c .if2 .taken), (st .pre .1 .1 .1 .0, st .pre .1 .1 .1 .1)))))
+    (omega arith, (omega arith, (eq-eqb (c .if2 .taken), st .pre .1 .1)))
 
 node-returns-2 : (t : ℕ) → node-lts.Need-returns-2 (node-claims t) (node-at t) node.Post node-Inv-loop node-μ-loop
 node-returns-2 t c =
-    let st = c .before .before .before .before .before .before .before .before in
+    let st = c .before .before .before .before .before .before .before .before .before .before in
+    let h = st .args .here in
     let l = c .before .before .before .before .before .loop in
     let p = c .before .stage in
-    subst (λ (b : Bool). Answer (tries (st .args .marks .now)) (At (st .args .s .target)) (At (st .args .s .sum)) (st .args .k) (st .args .m) b (p .result .masks)) (sym (c .if3 .taken))
+    subst (λ (d : Bool). Answer (tries (now (st .args .marks))) (At (h .target)) (AtSum (chosen (h .path) (h .len))) (st .args .k) (st .args .m) d (p .result .masks)) (sym (c .if3 .taken))
     (passed-found _ _ _ (st .args .k) (st .args .m) (omega arith) (l .i) _ (l .inv .1) (p .ensures .0 (c .if3 .taken)))
 
 node-add-i : (t : ℕ) → node-lts.Need-add-i (node-claims t) (node-at t) node.Post node-Inv-loop node-μ-loop
@@ -105,54 +111,61 @@ node-loop-less t c = search needs
 
 node-loop-again : (t : ℕ) → node-lts.Need-loop-again (node-claims t) (node-at t) node.Post node-Inv-loop node-μ-loop
 node-loop-again t c =
-    let st = c .before .before .before .before .before .before in
+    let st = c .before .before .before .before .before .before .before .before in
+    let h = st .args .here in
     let l = c .before .before .before .loop in (
       omega arith,
-      passed-more (tries (st .args .marks .now)) _ _ (st .args .k) (st .args .m) (omega arith) (l .i) (l .inv .1)
-          (⊎-elim (λ w _. w .1 .ensures .1 (w .2 .left)) (λ w e. absurd (w .left (eqb→eq (getD (st .args .marks .now) (l .i) 0) 1 e))) (c .if2 .came)),
+      passed-more (tries (now (st .args .marks))) _ _ (st .args .k) (st .args .m) (omega arith) (l .i) (l .inv .1)
+          (⊎-elim (λ w _. w .1 .ensures .1 (w .2 .left)) (λ w e. absurd (w .left (eqb→eq (getD (now (st .args .marks)) (l .i) 0) 1 e))) (c .if2 .came)),
     )
 
 node-returns-3 : (t : ℕ) → node-lts.Need-returns-3 (node-claims t) (node-at t) node.Post node-Inv-loop node-μ-loop
 node-returns-3 t c =
-    let st = c .before .before .before .before in
+    let st = c .before .before .before .before .before .before in
+    let h = st .args .here in
     let l = c .before .loop in
-    passed-all (tries (st .args .marks .now)) _ _ (st .args .k) (st .args .m) (omega arith) (l .i) _ (st .pre .1 .1 .1 .0 .stages) (l .inv .1) (c .loop-test .left) (zero-at 32)
+    passed-all (tries (now (st .args .marks))) _ _ (st .args .k) (st .args .m) (omega arith) (l .i) _ (st .pre .1 .1 .pool .marked .stages) (l .inv .1) (c .loop-test .left) (zero-at 32)
 
 stage-sub-tried : (t : ℕ) → stage-lts.Need-sub-tried (stage-claims t) (stage-at t) stage.Post
 stage-sub-tried t c = search needs
 
 stage-tried-requires : (t : ℕ) → stage-lts.Need-tried-requires (stage-claims t) (stage-at t) stage.Post
-stage-tried-requires t c κs =
-    let st = c .before in
-    let m = st .pre .1 .1 .1 .1 .0 in
-    (omega arith, (m .stages (st .args .m) (st .pre .1 .1 .1 .0), st .pre .1 .1 .1 .1 .1))
+stage-tried-requires t c κs = search needs
 
 stage-returns : (t : ℕ) → stage-lts.Need-returns (stage-claims t) (stage-at t) stage.Post
 stage-returns t c =
-    let st = c .before .before .before .before in
-    let tr = c .before .before .tried in
-    let m = st .pre .1 .1 .1 .1 .0 in
-    (λ e. absurd (false≢true e), λ e. below-none (tries (st .args .marks .now)) _ _ _ _ (st .args .k) (st .args .m) _ _ _ _ _ _ (tr .ensures) (not-true _ (c .if1 .taken)) (m .stages))
+    let st = c .before .before .before .before .before .before in
+    let h = st .args .here in
+    let kept = st .pre .1 .1 .1 in
+    let room = kept .room in (
+      λ e. absurd (false≢true e),
+      λ e. below-none (tries (now (st .args .marks))) (now (st .args .nums)) (now (st .args .cand)) (h .target) (h .rest) (h .path) (h .len) (h .need) (st .args .k) (st .args .m) _ _ _ _ _ _ (c .before .before .tried .ensures) (not-true _ (c .if1 .taken))
+          (record { table = kept .pool .table; list = kept .pool .few; path = omega arith }) (kept .state) (kept .pool .allowed) (kept .pool .all) (st .pre .1 .1 .0),
+    )
 
 stage-sub-node : (t : ℕ) → stage-lts.Need-sub-node (stage-claims t) (stage-at t) stage.Post
 stage-sub-node t c = search needs
 
 stage-node-requires : (t : ℕ) → stage-lts.Need-node-requires (stage-claims t) (stage-at t) stage.Post
 stage-node-requires t c κs =
-    let st = c .before .before .before .before .before in
+    let st = c .before .before .before .before .before .before .before in
+    let h = st .args .here in
+    let kept = st .pre .1 .1 .1 in
+    let room = kept .room in
     let tr = c .before .before .before .tried in
     let ok = not-false _ (c .before .if1 .left) in
-    let l = tr .ensures .shrinks ok in
-    let b = mask-below (st .args .m) (st .pre .1 .1 .1 .1 .0 .stages (st .args .m) (st .pre .1 .1 .1 .0)) in
-    (omega arith, (omega arith, (omega arith, (st .pre .1 .1 .1 .1 .0, tr .ensures .kept ok))))
+    let falls = tr .ensures .falls ok in
+    let longer = tr .ensures .longer ok .1 in
+    let low = mask-below (st .args .m) (kept .pool .marked .stages (st .args .m) (st .pre .1 .1 .0)) in
+    (omega arith, (omega arith, record { pool = kept .pool; room = omega arith; state = tr .ensures .ready ok (tries (now (st .args .marks))) (kept .state) (st .pre .1 .1 .0) }))
 
 stage-returns-2 : (t : ℕ) → stage-lts.Need-returns-2 (stage-claims t) (stage-at t) stage.Post
 stage-returns-2 t c =
-    let st = c .before .before .before .before .before .before .before .before in
-    let tr = c .before .before .before .before .before .before .tried in
+    let st = c .before .before .before .before .before .before .before .before .before .before in
+    let h = st .args .here in
     let n = c .before .before .node in (
       λ e. absurd (false≢true e),
-      λ e. below-closed (tries (st .args .marks .now)) _ _ _ _ (st .args .k) (st .args .m) _ _ _ _ _ _ (tr .ensures) (not-false _ (c .before .before .before .before .if1 .left)) (st .pre .1 .0) (st .pre .1 .1 .1 .0) _ _
+      λ e. below-closed (tries (now (st .args .marks))) (now (st .args .nums)) (now (st .args .cand)) (h .target) (h .rest) (h .path) (h .len) (h .need) (st .args .k) (st .args .m) _ _ _ _ _ _ (c .before .before .before .before .before .before .tried .ensures) (not-false _ (c .before .before .before .before .if1 .left)) (st .pre .1 .0) (st .pre .1 .1 .0) _ _
           (n .ensures) (not-true _ (c .if2 .taken)),
     )
 
@@ -163,17 +176,17 @@ stage-mul-p : (t : ℕ) → stage-lts.Need-mul-p (stage-claims t) (stage-at t) s
 stage-mul-p t c = search needs
 
 stage-element-write-p : (t : ℕ) → stage-lts.Need-element-write-p (stage-claims t) (stage-at t) stage.Post
-stage-element-write-p t c =
-    search needs
+stage-element-write-p t c = search needs
 
 stage-returns-3 : (t : ℕ) → stage-lts.Need-returns-3 (stage-claims t) (stage-at t) stage.Post
 stage-returns-3 t c =
-    let st = c .before .before .before .before .before .before .before .before in
-    let tr = c .before .before .before .before .before .before .tried in
+    let st = c .before .before .before .before .before .before .before .before .before .before in
+    let h = st .args .here in
+    let room = st .pre .1 .1 .1 .room in
     let n = c .before .before .node in
     let f = not-false _ (c .if2 .left) in
     let l : length (n .result .masks) ≡ 32 = field-length 32 (n .result .masks) (n .ok .1 .1 .1 .0 .1 .0 .1) in (
-      λ e. below-found (tries (st .args .marks .now)) _ _ _ _ (st .args .k) (st .args .m) _ _ _ _ _ _ (tr .ensures) (not-false _ (c .before .before .before .before .if1 .left)) (st .pre .1 .0) (st .pre .1 .1 .1 .0) _ _
+      λ e. below-found (tries (now (st .args .marks))) (now (st .args .nums)) (now (st .args .cand)) (h .target) (h .rest) (h .path) (h .len) (h .need) (st .args .k) (st .args .m) _ _ _ _ _ _ (c .before .before .before .before .before .before .tried .ensures) (not-false _ (c .before .before .before .before .if1 .left)) (st .pre .1 .0) (st .pre .1 .1 .0) _ _
           (n .ensures) f (omega arith),
       λ e. absurd (true≢false (sym f ∙ e)),
     )
@@ -184,7 +197,7 @@ pub +node+stage-spec : {M : Type 1} → statement M
     node.Post
     node-Inv-loop
     node-μ-loop
-    (node-same-requires t)
+    (node-finished-requires t)
     (node-returns t)
     (node-loop-holds t)
     (node-cast-if2 t)

@@ -7,8 +7,8 @@ use Rattle.masks.specs.Mask.{stage}
 use Rattle.rows.specs.Cells.{At}
 use Rattle.search.specs.Tree.{Marked}
 use Rattle.search.proofs.Marking.{marked-none, marked-more}
-use Rattle.search.proofs.marked.Statement.{statement}
-use Rattle.search.proofs.marked.Tie as tie
+use Rattle.search.proofs.marks.marked.Statement.{statement}
+use Rattle.search.proofs.marks.marked.Tie as tie
 
 abbrev Inv-loop : tie.InvT-loop
 Inv-loop cells marks₀ m₀ marks m = (m ≤ 512) × Marked stage (At cells) m marks
