@@ -5,6 +5,7 @@ pub mod cases;
 pub mod check;
 pub mod expect;
 pub mod frames;
+pub mod hard;
 pub mod library;
 pub mod lists;
 pub mod operations;

@@ -6,6 +6,7 @@ use crate::reference::grounds::is_stage;
 use crate::reference::points::{bounds, of_mask, of_shape, Point};
 
 pub mod damage;
+pub mod full;
 pub mod planning;
 
 /// Offsets at and about the limits.

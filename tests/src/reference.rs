@@ -7,6 +7,7 @@ pub mod grounds;
 pub mod plans;
 pub mod points;
 mod sets;
+pub mod sums;
 
 use grounds::{first, PLAN, SHAPE};
 use plans::{shortest, to_plan_list};
