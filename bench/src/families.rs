@@ -1,8 +1,9 @@
 //! Families of shapes to plan, each made from a fixed seed. All stand somewhere in
 //! the window, with any anchor.
 
+use crate::rows::{is_marked, least_position};
 use musqerpi_tests::lists::Maker;
-use musqerpi_tests::reference::points::Point;
+use musqerpi_tests::reference::points::{summed, Point};
 
 /// Shapes in a family; of disks there are fewer, all that there are.
 const SHAPES: usize = 300;
@@ -28,6 +29,12 @@ pub fn all() -> Vec<Family> {
     families.push(disks());
     families.push(family("ellipses", 441, ellipse));
     families.push(family("with holes", 442, rectangle_with_holes));
+    families.push(family("octagons, half flipped", 446, octagon_half_flipped));
+    families.push(family(
+        "irreducible and stages",
+        447,
+        irreducible_and_stages,
+    ));
     families.push(family("combs", 443, comb));
     families.push(family("sparse", 444, |maker| scattered(maker, 8, false)));
     families.push(family("dense", 445, |maker| scattered(maker, 32, true)));
@@ -100,6 +107,50 @@ fn rectangle_with_holes(maker: &mut Maker) -> Vec<Point> {
         left.retain(|&point| point != hole);
     }
     left
+}
+
+/// A box without its corners, each cut along a line of its own; in half of them a cell of
+/// the box is put in or taken out.
+fn octagon_half_flipped(maker: &mut Maker) -> Vec<Point> {
+    let (w, h) = (maker.random.between(7, 15), maker.random.between(7, 15));
+    let mut cut = |most| {
+        (
+            maker.random.between(1, 2),
+            maker.random.between(1, 2),
+            maker.random.between(0, most),
+        )
+    };
+    let cuts: [(i64, i64, i64); 4] = std::array::from_fn(|_| cut(w.min(h)));
+    let cell = (maker.random.between(0, w), maker.random.between(0, h));
+    let flipped = maker.random.once_in(2);
+    points((w, h), |(x, y)| {
+        let corners = [(x, y), (w - x, y), (x, h - y), (w - x, h - y)];
+        let pairs = corners.iter().zip(&cuts);
+        let mut beyond = pairs.map(|((x, y), (a, b, least))| a * x + b * y >= *least);
+        beyond.all(|kept| kept) != (flipped && (x, y) == cell)
+    })
+}
+
+/// Cells of a box of 5 by 5 that no stage is a summand of, with random stages.
+fn irreducible_and_stages(maker: &mut Maker) -> Vec<Point> {
+    let (w, h) = (maker.random.between(0, 11), maker.random.between(0, 11));
+    let stages = maker.sum_of_stages((w, h));
+    loop {
+        let mut cells = points((4, 4), |_| true);
+        cells.retain(|_| maker.random.once_in(2));
+        if !cells.is_empty() && is_irreducible(&cells) {
+            return summed(&cells, &stages);
+        }
+    }
+}
+
+fn is_irreducible(cells: &[Point]) -> bool {
+    let mut rows = [0; 16];
+    for &(x, y) in cells {
+        rows[y as usize] |= 1 << x;
+    }
+    let shape = least_position(&rows);
+    !(0..512).any(|mask| is_marked(&shape, mask))
 }
 
 /// A back of one or two rows and teeth at every second, third or fourth column, some

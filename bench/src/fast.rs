@@ -2,7 +2,9 @@
 //! [u16; 16], bit operations, no allocation. Planning is the port of the library's
 //! search, and no quicker way to search.
 
-use crate::search::{End, Rows, Search};
+use crate::quick::Quick;
+use crate::rows::Rows;
+use crate::search::End;
 use musqerpi_tests::cases::Call;
 
 mod read;
@@ -236,7 +238,7 @@ pub fn plan(list: &[u32], out: &mut [u32]) -> i64 {
     if out.len() < 32 {
         return -9;
     }
-    let mut search = Search::new(&rows_of(list), u64::MAX);
+    let mut search = Quick::new(&rows_of(list), u64::MAX);
     let End::Plan(n) = search.run() else {
         return -10;
     };

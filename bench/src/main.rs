@@ -5,6 +5,8 @@ mod families;
 mod fast;
 mod frames;
 mod planning;
+mod quick;
+mod rows;
 mod search;
 
 use musqerpi_tests::cases::{hex, Call, Case, SHAPE_CALLS};

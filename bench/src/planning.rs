@@ -1,56 +1,69 @@
-//! Planning: nodes of the search, and the time of the library beside the port, family
-//! by family.
+//! Planning: what the plain search took and the quick one takes, and the library's time
+//! beside the port's; by families, then on the hard shapes, then the goals.
 
-use crate::families::{all, Family};
 use crate::fast;
+use crate::quick::Quick;
 use crate::search::{End, Search};
-use musqerpi_tests::cases::hex;
 use musqerpi_tests::library;
 use std::hint::black_box;
 use std::time::Instant;
 
-/// Tests of a stage after which the port gives up. The library has no limit, so it
-/// is called only on the shapes that the port finished.
-const LIMIT: u64 = 50_000;
+mod by_family;
+mod goals;
+mod hard;
+
+/// Tests of a stage after which the plain search gives up, and the quick one. The library
+/// has no limit, so it is called only on the shapes that the quick one finished.
+const PLAIN_LIMIT: u64 = 50_000;
+const QUICK_LIMIT: u64 = 1_000_000;
 
 /// Timed calls of each engine on a shape, and on one whose search is long.
 const ROUNDS: usize = 9;
 const LONG_ROUNDS: usize = 3;
 const LONG: u64 = 5_000;
 
-/// A shape that the port finished: its list, and what its search took.
-struct Finished<'a> {
-    shape: &'a [u32],
+/// What a search took, until its end or until it gave up.
+#[derive(Clone, Copy)]
+struct Effort {
     nodes: u64,
     tests: u64,
+    gave_up: bool,
 }
 
-fn finished(shape: &[u32]) -> Option<Finished<'_>> {
-    let mut search = Search::new(&fast::rows_of(shape), LIMIT);
-    let end = search.run();
+/// The plain search of a shape list.
+fn before(shape: &[u32]) -> Effort {
+    let mut search = Search::new(&fast::rows_of(shape), PLAIN_LIMIT);
+    let gave_up = search.run() == End::GaveUp;
     let (nodes, tests) = (search.nodes, search.tests);
-    (end != End::GaveUp).then_some(Finished {
-        shape,
+    Effort {
         nodes,
         tests,
-    })
+        gave_up,
+    }
 }
 
-/// Library and port answer and write the same.
-fn assert_agreement(shape: &[u32]) {
-    let (mut ours, mut theirs) = ([0x5555_5555; 32], [0x5555_5555; 32]);
-    let found = library::plan(shape, &mut ours);
-    let expected = fast::plan(shape, &mut theirs);
-    assert!(
-        found == expected && ours == theirs,
-        "{}: library answers {found} and {}, port {expected} and {}",
-        hex(shape),
-        hex(&ours),
-        hex(&theirs)
-    );
+/// The quick one.
+fn after(shape: &[u32]) -> Effort {
+    let mut search = Quick::new(&fast::rows_of(shape), QUICK_LIMIT);
+    let gave_up = search.run() == End::GaveUp;
+    let (nodes, tests) = (search.nodes, search.tests);
+    Effort {
+        nodes,
+        tests,
+        gave_up,
+    }
 }
 
 type Engine = fn(&[u32], &mut [u32]) -> i64;
+
+const LIBRARY: Engine = library::plan;
+const PORT: Engine = fast::plan;
+
+/// What an engine answers, and its output over a pattern.
+fn answer(engine: Engine, shape: &[u32]) -> (i64, [u32; 32]) {
+    let mut out = [0x5555_5555; 32];
+    (engine(shape, &mut out), out)
+}
 
 /// Seconds of one call.
 fn time(engine: Engine, shape: &[u32]) -> f64 {
@@ -62,85 +75,37 @@ fn time(engine: Engine, shape: &[u32]) -> f64 {
     seconds
 }
 
-/// The median seconds of library and port on one shape, called in turn. A first call
-/// of each, to warm up, isn't counted; it was made when they were compared.
-fn measure(shape: &Finished) -> [f64; 2] {
-    let rounds = if shape.tests < LONG {
-        ROUNDS
-    } else {
-        LONG_ROUNDS
-    };
+/// The median seconds of library and port on a shape whose search makes so many tests,
+/// called in turn. A first call of each, to warm up, isn't counted; it was made when they
+/// were compared.
+fn measure(shape: &[u32], tests: u64) -> [f64; 2] {
+    let rounds = if tests < LONG { ROUNDS } else { LONG_ROUNDS };
     let mut times = [const { Vec::new() }; 2];
     for _ in 0..rounds {
-        times[0].push(time(library::plan, shape.shape));
-        times[1].push(time(fast::plan, shape.shape));
+        times[0].push(time(LIBRARY, shape));
+        times[1].push(time(PORT, shape));
     }
-    times.map(|mut times| {
-        times.sort_by(f64::total_cmp);
-        times[times.len() / 2]
-    })
+    times.map(crate::median)
 }
 
-/// Median, 99th percentile and worst.
+/// Median, 99th percentile and worst of values that aren't none.
 fn spread(mut values: Vec<f64>) -> [f64; 3] {
     values.sort_by(f64::total_cmp);
     let n = values.len();
     [n / 2, (n * 99).div_ceil(100) - 1, n - 1].map(|place| values[place])
 }
 
-fn micros(spread: [f64; 3]) -> String {
-    spread.map(|time| format!("{:>9.0}", time * 1e6)).concat()
-}
-
-/// One row of the table; the seconds of both on all its shapes are answered.
-fn print_family(family: &Family) -> [f64; 2] {
-    let kept: Vec<Finished> = family.shapes.iter().filter_map(|s| finished(s)).collect();
-    let given_up = family.shapes.len() - kept.len();
-    print!(
-        "{:<20}{:>7}{:>9}",
-        family.name,
-        family.shapes.len(),
-        given_up
-    );
-    if kept.is_empty() {
-        println!();
-        return [0.0; 2];
-    }
-    kept.iter().for_each(|kept| assert_agreement(kept.shape));
-    let times: Vec<[f64; 2]> = kept.iter().map(measure).collect();
-    let of = |engine: usize| times.iter().map(move |pair| pair[engine]);
-    let (library, port) = (spread(of(0).collect()), spread(of(1).collect()));
-    let totals = [of(0).sum::<f64>(), of(1).sum::<f64>()];
-    let nodes = spread(kept.iter().map(|kept| kept.nodes as f64).collect());
-    println!(
-        "{}{}{}{:>9.2}{:>9.2}",
-        nodes.map(|count| format!("{count:>8}")).concat(),
-        micros(library),
-        micros(port),
-        library[0] / port[0],
-        totals[0] / totals[1]
-    );
-    totals
+/// Library and port summed over all shapes.
+fn totals(times: &[[f64; 2]]) -> [f64; 2] {
+    let sum = |engine: usize| times.iter().map(|pair| pair[engine]).sum();
+    [sum(0), sum(1)]
 }
 
 pub fn run() {
-    println!("port stopped at {LIMIT} tests; median, 99th percentile and worst");
-    println!(
-        "{:<20}{:>7}{:>9}{:^24}{:^27}{:^27}{:^18}",
-        "", "", "", "nodes", "library, us", "port, us", "library over port"
-    );
-    println!(
-        "{:<20}{:>7}{:>9}{:24}{:27}{:27}{:>9}{:>9}",
-        "family", "shapes", "given up", "", "", "", "medians", "totals"
-    );
-    let mut totals = [0.0; 2];
-    for family in &all() {
-        let seconds = print_family(family);
-        totals = [totals[0] + seconds[0], totals[1] + seconds[1]];
-    }
-    let ratio = totals[0] / totals[1];
-    println!(
-        "all: library {:.2} s, port {:.2} s, ratio {ratio:.2}",
-        totals[0], totals[1]
-    );
+    println!("plain search stopped at {PLAIN_LIMIT} tests, quick one at {QUICK_LIMIT}; median, 99th percentile and worst");
+    let families = by_family::run();
+    println!();
+    let hard = hard::run();
+    println!();
+    goals::print(&families, &hard);
 }

@@ -1,11 +1,7 @@
-//! The library's search in plain Rust, step by step the same, so that its nodes can
-//! be counted and a long search given up. It stands alone and allocates nothing.
+//! The plain search, as the library had it before the quick one: never-falling lists, and
+//! the extents and (A ⊖ Y) ⊕ Y = A to pass sums over by. It is here for its counts alone.
 
-/// Cells of the window: cell (x, y) is bit x of row y.
-pub type Rows = [u16; 16];
-
-/// No plan has more stages: each adds at least 1 to w + h.
-pub const MOST_STAGES: usize = 30;
+use crate::rows::{extents, grow, is_marked, least_position, shrink, Rows, MOST_STAGES};
 
 /// Why a search ended.
 #[derive(Clone, Copy, Debug, PartialEq, Eq)]
@@ -49,8 +45,7 @@ impl Search {
         let (w, h) = extents(&shape);
         let mut open = [false; 512];
         for (m, open) in open.iter_mut().enumerate() {
-            let mask = m as u16;
-            *open = is_stage(mask) && grow(&shrink(&shape, mask), mask) == shape;
+            *open = is_marked(&shape, m as u16);
         }
         Search {
             shape,
@@ -118,30 +113,6 @@ impl Search {
     }
 }
 
-/// The cells moved to least column and row 0.
-fn least_position(rows: &Rows) -> Rows {
-    let all = rows.iter().fold(0, |all, row| all | row);
-    let right = all.trailing_zeros();
-    let top = rows.iter().take_while(|&&row| row == 0).count();
-    let mut moved = [0; 16];
-    for (to, row) in moved.iter_mut().zip(&rows[top..]) {
-        *to = row >> right;
-    }
-    moved
-}
-
-/// The last column and the last row with a cell.
-fn extents(rows: &Rows) -> (usize, usize) {
-    let all = rows.iter().fold(0u16, |all, row| all | row);
-    let last = rows.iter().rposition(|&row| row != 0);
-    (15 - all.leading_zeros() as usize, last.unwrap_or(0))
-}
-
-/// A mask in normal position with two cells or more.
-fn is_stage(mask: u16) -> bool {
-    mask & 0o111 != 0 && mask & 0o007 != 0 && mask.count_ones() >= 2
-}
-
 /// The extents of a stage.
 fn mask_width(mask: u16) -> usize {
     match () {
@@ -157,37 +128,6 @@ fn mask_height(mask: u16) -> usize {
         _ if mask & 0o070 != 0 => 1,
         _ => 0,
     }
-}
-
-/// The sum of cells and a mask, cut to the window.
-fn grow(rows: &Rows, mask: u16) -> Rows {
-    let mut sum = [0; 16];
-    for j in 0..3 {
-        let cells = mask >> (3 * j);
-        let all_if = |i: u16| (cells >> i & 1).wrapping_neg();
-        let (one, two, three) = (all_if(0), all_if(1), all_if(2));
-        for y in j..16 {
-            let row = rows[y - j];
-            sum[y] |= (row & one) | ((row << 1) & two) | ((row << 2) & three);
-        }
-    }
-    sum
-}
-
-/// The difference of cells and a mask: the points p with p + c among the cells for
-/// every cell c of the mask.
-fn shrink(rows: &Rows, mask: u16) -> Rows {
-    let mut kept = [0xffff; 16];
-    for j in 0..3 {
-        let cells = mask >> (3 * j);
-        let none_if = |i: u16| (cells >> i & 1).wrapping_sub(1);
-        let (one, two, three) = (none_if(0), none_if(1), none_if(2));
-        for y in 0..16 {
-            let row = if y + j < 16 { rows[y + j] } else { 0 };
-            kept[y] &= (row | one) & ((row >> 1) | two) & ((row >> 2) | three);
-        }
-    }
-    kept
 }
 
 /// The sum of two sets of cells, cut to the window.
