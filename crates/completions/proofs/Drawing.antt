@@ -41,7 +41,7 @@ module _ (nums need cand : List ℕ) where
 
 -- after j of the first n of xs: those without number i are the first p of list, and those with it the first q of other
 pub record SplitTo (nums xs : List ℕ) (i : ℕ) (list other : List ℕ) (p q j : ℕ) : Type 0 where
-  pub few : p + q ≤ j
+  pub few : p + q ≡ j
   pub list-long : length list ≡ 512
   pub other-long : length other ≡ 512
   pub all : (m : ℕ) → m < 512 → Among xs j m → Among list p m ⊎ Among other q m

@@ -53,15 +53,15 @@ module _ (nums target rest path : List ℕ) (len : ℕ) (need cand : List ℕ) (
   }
 
   -- the loop's end: a number is needed that none of those left has
-  module _ (some : List ℕ) (u : ℕ) (fit : Fitting nums need cand (length cand) some u) (i : ℕ) (list : List ℕ) (p n : ℕ) (cut : Split nums some u i list p n) (long : length list ≡ 512) where
+  module _ (some : List ℕ) (n : ℕ) (fit : Fitting nums need cand (length cand) some n) (i : ℕ) (list : List ℕ) (p : ℕ) (cut : Split nums some n i list p) where
     allowed : (permitted : ℕ → Bool) → Allowed permitted cand → Allowed permitted (take n list)
-    allowed permitted a m h = a m (fit .only m (cut .only m (among-more list _ n m (omega (arith, length-take n list, cut .few, fit .room)) (of-part list n (length (take n list)) m (omega (arith, length-take n list)) h))))
+    allowed permitted a m h = a m (fit .only m (cut .only m (among-more list _ n m (omega (arith, length-take n list, cut .long, fit .room)) (of-part list n (length (take n list)) m (omega (arith, length-take n list)) h))))
 
     pub node-none : (r : ℕ) → i < 18 → 0 < getD need i 0 → r ≤ p → Turned (take n list) r → NoneHere nums target rest path len need cand k
     node-none r l z q t = record {
       no = λ permitted s a.
           let order = cut .order in
-          let few = cut .few in
+          let long = cut .long in
           let room = fit .room in
           drawn permitted (At target) Y (take n list) (length (take n list)) k (numberIn nums) (At rest) need (s .state) cand (length cand)
           (λ m g b f. let d = s .known .below m g in to-part list n m (omega arith) (cut .all m d (fit .all m d b f)))

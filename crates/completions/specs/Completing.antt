@@ -94,21 +94,21 @@ pub record Fitting (nums need xs : List ℕ) (n : ℕ) (xs′ : List ℕ) (n′ 
   pub few : n′ ≤ n
   pub room : n′ ≤ 512
 
--- of xs, the masks of the first n are among the first n′ of xs′, of which the first p are without number i
-pub record Split (nums xs : List ℕ) (n i : ℕ) (xs′ : List ℕ) (p n′ : ℕ) : Type 0 where
-  pub all : (m : ℕ) → m < 512 → Among xs n m → Among xs′ n′ m
-  pub only : (m : ℕ) → Among xs′ n′ m → Among xs n m
+-- the first n of xs are the first n of xs′, of which the first p are without number i
+pub record Split (nums xs : List ℕ) (n i : ℕ) (xs′ : List ℕ) (p : ℕ) : Type 0 where
+  pub all : (m : ℕ) → m < 512 → Among xs n m → Among xs′ n m
+  pub only : (m : ℕ) → Among xs′ n m → Among xs n m
   pub without : (m : ℕ) → m < 512 → Among xs′ p m → numberIn nums i m ≡ 0
-  pub order : p ≤ n′
-  pub few : n′ ≤ n
+  pub order : p ≤ n
+  pub long : length xs′ ≡ 512
 
--- the first p of list and then the first q of other
-pub record Joined (list : List ℕ) (p : ℕ) (other : List ℕ) (q : ℕ) (xs : List ℕ) (p′ n : ℕ) : Type 0 where
-  pub first : (m : ℕ) → Among list p m → Among xs n m
-  pub behind : (m : ℕ) → Among other q m → Among xs n m
-  pub back : (m : ℕ) → Among xs p′ m → Among list p m
-  pub only : (m : ℕ) → Among xs n m → Among list p m ⊎ Among other q m
-  pub sizes : (p′ ≡ p) × (n ≡ p + q)
+-- xs has the first p of list and then the first q of other
+pub record Joined (list : List ℕ) (p : ℕ) (other : List ℕ) (q : ℕ) (xs : List ℕ) : Type 0 where
+  pub first : (m : ℕ) → Among list p m → Among xs (p + q) m
+  pub behind : (m : ℕ) → Among other q m → Among xs (p + q) m
+  pub back : (m : ℕ) → Among xs p m → Among list p m
+  pub only : (m : ℕ) → Among xs (p + q) m → Among list p m ⊎ Among other q m
+  pub long : length xs ≡ 512
 
 -- each mask of a list is permitted
 abbrev pub Allowed : (ℕ → Bool) → List ℕ → Type 0

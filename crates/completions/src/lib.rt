@@ -35,18 +35,15 @@ fn node(here: Here, nums: &[u8], cand: &[u16], k: usize) -> bool
     if 2 * k < h {
         return false;
     }
-    let some = pools::fitted(need, nums, cand);
-    let fit = some.list;
-    let u = some.n;
-    let count = pools::tally(nums, &fit, u);
+    let mut fit = [0u16; 512];
+    let n = pools::fitted(need, nums, cand, &mut fit);
+    let count = pools::tally(nums, &fit, n);
     let i = pools::scarce(need, count);
     if i == 18 {
         return true;
     }
-    let d = pools::split(nums, i, &fit, u);
-    let list = d.list;
-    let p = d.p;
-    let n = d.n;
+    let mut list = [0u16; 512];
+    let p = pools::split(nums, i, &fit, n, &mut list);
     let mut r = n;
     while p < r {
         if stage(here, nums, &list[0..n], r, k) {

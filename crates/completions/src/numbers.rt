@@ -20,7 +20,7 @@ fn greater(a: u8, b: u8) -> u8
 }
 
 // Whether no number of m is above what is needed. The loop always runs to its end, so that the numbers are held against each other together.
-pub fn fits(need: [u8; 18], nums: &[u8], m: u16) -> bool
+pub(crate) fn fits(need: [u8; 18], nums: &[u8], m: u16) -> bool
     requires { ⌜ (m < 512) × (length (now nums) ≡ 9216) ⌝ }
     ensures yes { λ r. ⌜ (r ≡ true → Fit (numberIn (now (nums .entry))) need m) ⌝ }
     ensures no { λ r. ⌜ (r ≡ false → Fit (numberIn (now (nums .entry))) need m → ⊥) ⌝ }
@@ -36,7 +36,7 @@ pub fn fits(need: [u8; 18], nums: &[u8], m: u16) -> bool
 }
 
 // What is needed after m.
-pub fn less(need: [u8; 18], nums: &[u8], m: u16) -> [u8; 18]
+pub(crate) fn less(need: [u8; 18], nums: &[u8], m: u16) -> [u8; 18]
     requires { ⌜ (m < 512) × (length (now nums) ≡ 9216) ⌝ }
     ensures { λ r. ⌜ ((i : ℕ) → i < 18 → getD r i 0 ≡ getD need i 0 - numberIn (now (nums .entry)) i m) ⌝ }
 {
@@ -51,7 +51,7 @@ pub fn less(need: [u8; 18], nums: &[u8], m: u16) -> [u8; 18]
 }
 
 // 1 where m is one of the 512 masks and fits what is needed, else 0.
-pub fn fitting(need: [u8; 18], nums: &[u8], m: u16) -> usize
+pub(crate) fn fitting(need: [u8; 18], nums: &[u8], m: u16) -> usize
     requires { ⌜ length (now nums) ≡ 9216 ⌝ }
     ensures { λ r. ⌜ (r ≤ 1) × (m < 512 → Fit (numberIn (now (nums .entry))) need m → 1 ≤ r) ⌝ }
 {
@@ -62,7 +62,7 @@ pub fn fitting(need: [u8; 18], nums: &[u8], m: u16) -> usize
 }
 
 // 1 where the mask has number i, else 0.
-pub fn having(nums: &[u8], i: usize, m: u16) -> usize
+pub(crate) fn having(nums: &[u8], i: usize, m: u16) -> usize
     requires { ⌜ (length (now nums) ≡ 9216) × (i < 18) ⌝ }
     ensures { λ r. ⌜ (r ≤ 1) × (r ≡ 0 → m < 512 → numberIn (now (nums .entry)) i m ≡ 0) ⌝ }
 {

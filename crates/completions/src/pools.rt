@@ -6,19 +6,11 @@ ghost use Prim.Native.Nat.{_+_, _≤_, _<_};
 ghost use lib.ListN.{length, getD};
 ghost use Rattle.completions.specs.Completing.{Fitting, Split, Joined};
 
-// The first n of a list; those before p are without the number that was asked for.
-pub struct Pool {
-    pub list: [u16; 512],
-    pub p: usize,
-    pub n: usize,
-}
-
-// Those of the list that fit what is needed.
-pub fn fitted(need: [u8; 18], nums: &[u8], cand: &[u16]) -> Pool
-    requires { ⌜ (length (now nums) ≡ 9216) × (length (now cand) ≤ 512) ⌝ }
-    ensures { λ r. ⌜ Fitting (now (nums .entry)) need (now (cand .entry)) (length (now (cand .entry))) (r .list) (r .n) ⌝ }
+// Puts those of the candidates that fit what is needed to the front of the list, and answers how many they are.
+pub(crate) fn fitted(need: [u8; 18], nums: &[u8], cand: &[u16], list: &mut [u16; 512]) -> usize
+    requires { ⌜ (length (now nums) ≡ 9216) × ((length (now cand) ≤ 512) × (length (now list) ≡ 512)) ⌝ }
+    ensures { λ r. ⌜ Fitting (now (nums .entry)) need (now (cand .entry)) (length (now (cand .entry))) (now (list .exit)) r ⌝ }
 {
-    let mut list = [0u16; 512];
     let mut n: usize = 0;
     let mut j: usize = 0;
     while j < cand.len() {
@@ -28,37 +20,32 @@ pub fn fitted(need: [u8; 18], nums: &[u8], cand: &[u16]) -> Pool
         n += k;
         j += 1;
     }
-    Pool {
-        list: list,
-        p: 0,
-        n: n,
-    }
+    n
 }
 
-// The first p of one list and then the first q of the other.
-fn joined(list: [u16; 512], p: usize, other: &[u16; 512], q: usize) -> Pool
-    requires { ⌜ (p + q) ≤ 512 ⌝ }
-    ensures { λ r. ⌜ Joined list p (now (other .entry)) q (r .list) (r .p) (r .n) ⌝ }
+// Puts the first q of the other list behind the first p.
+fn joined(list: &mut [u16; 512], p: usize, other: &[u16; 512], q: usize)
+    requires { ⌜ ((p + q) ≤ 512) × (length (now list) ≡ 512) ⌝ }
+    ensures { λ _. ⌜ Joined (now (list .entry)) p (now (other .entry)) q (now (list .exit)) ⌝ }
 {
-    let mut all = list;
     let mut t: usize = 0;
     while t < q {
-        all[p + t] = other[t];
+        list[p + t] = other[t];
         t += 1;
-    }
-    Pool {
-        list: all,
-        p: p,
-        n: p + q,
     }
 }
 
-// The first n of the list, those without number i before those with it.
-pub fn split(nums: &[u8], i: usize, xs: &[u16; 512], n: usize) -> Pool
-    requires { ⌜ (length (now nums) ≡ 9216) × ((i < 18) × (n ≤ 512)) ⌝ }
-    ensures { λ r. ⌜ Split (now (nums .entry)) (now (xs .entry)) n i (r .list) (r .p) (r .n) ⌝ }
+// Puts the first n of xs into the list, those without number i before those with it, and answers how many are without it.
+pub(crate) fn split(
+    nums: &[u8],
+    i: usize,
+    xs: &[u16; 512],
+    n: usize,
+    list: &mut [u16; 512],
+) -> usize
+    requires { ⌜ (length (now nums) ≡ 9216) × ((i < 18) × ((n ≤ 512) × (length (now list) ≡ 512))) ⌝ }
+    ensures { λ r. ⌜ Split (now (nums .entry)) (now (xs .entry)) n i (now (list .exit)) r ⌝ }
 {
-    let mut list = [0u16; 512];
     let mut other = [0u16; 512];
     let mut p: usize = 0;
     let mut q: usize = 0;
@@ -72,7 +59,8 @@ pub fn split(nums: &[u8], i: usize, xs: &[u16; 512], n: usize) -> Pool
         q += k;
         j += 1;
     }
-    joined(list, p, &other, q)
+    joined(list, p, &other, q);
+    p
 }
 
 // The counts with those of the mask m.
@@ -90,7 +78,7 @@ fn counted(c: [u16; 18], nums: &[u8], m: u16) -> [u16; 18]
 }
 
 // How many of the first n of the list have each number. What is counted only decides which number is branched on.
-pub fn tally(nums: &[u8], xs: &[u16; 512], n: usize) -> [u16; 18]
+pub(crate) fn tally(nums: &[u8], xs: &[u16; 512], n: usize) -> [u16; 18]
     requires { ⌜ (length (now nums) ≡ 9216) × (n ≤ 512) ⌝ }
 {
     let mut c = [0u16; 18];
@@ -117,7 +105,7 @@ fn better(need: u8, first: bool, count: u16, few: u16) -> bool
 }
 
 // A number that is needed, of those the one that the fewest have; 18 where none is needed.
-pub fn scarce(need: [u8; 18], count: [u16; 18]) -> usize
+pub(crate) fn scarce(need: [u8; 18], count: [u16; 18]) -> usize
     ensures { λ r. ⌜ (r ≤ 18) × (r < 18 → 0 < getD need r 0) ⌝ }
 {
     let mut best: usize = 18;

@@ -118,7 +118,7 @@ pub fn finished(here: Here) -> bool
 
 // The partial sum below by the mask m. It is passed over where a number of m is above what is needed, where it gains nothing in width or height or what it leaves has not
 // the extents that are needed then, or where the target differs from (target ⊖ sum) ⊕ sum.
-pub fn step(here: Here, nums: &[u8], m: u16) -> Child
+pub(crate) fn step(here: Here, nums: &[u8], m: u16) -> Child
     requires { ⌜ (here .len < 32) × (length (now nums) ≡ 9216) ⌝ }
     ensures { λ r. ⌜ Stepped (now (nums .entry)) (here .target) (here .rest) (here .path) (here .len) (here .need) m (r .ok) (r .here .target) (r .here .rest) (r .here .path) (r .here .len) (r .here .need) ⌝ }
 {
@@ -172,7 +172,7 @@ fn replaces(t: [u16; 16], own: [u16; 16], m: u16, b: u16) -> bool
 }
 
 // The first of the list from r on that replaces m, or the list's length.
-pub fn replaced(t: [u16; 16], list: &[u16], r: usize, m: u16) -> usize
+pub(crate) fn replaced(t: [u16; 16], list: &[u16], r: usize, m: u16) -> usize
     ensures { λ p. ⌜ (p < length (now (list .entry)) → (r ≤ p) × ((i j : ℕ) → AtMask m i j → Replaces (At t) m (getD (now (list .entry)) p 0))) ⌝ }
 {
     let own = by_mask::shrunk(t, m);

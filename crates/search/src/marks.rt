@@ -21,7 +21,7 @@ fn mark(cells: [u16; 16], m: u16) -> u8
 }
 
 // The marks of all masks.
-pub fn marked(cells: [u16; 16]) -> [u8; 512]
+pub(crate) fn marked(cells: [u16; 16]) -> [u8; 512]
     ensures { λ r. ⌜ Marked isStage (At cells) 512 r ⌝ }
 {
     let mut marks = [0u8; 512];
@@ -34,13 +34,13 @@ pub fn marked(cells: [u16; 16]) -> [u8; 512]
 }
 
 // Masks in a list, the first n.
-pub struct Tries {
+pub(crate) struct Tries {
     pub list: [u16; 512],
     pub n: usize,
 }
 
 // The masks that are marked.
-pub fn listed(marks: &[u8]) -> Tries
+pub(crate) fn listed(marks: &[u8]) -> Tries
     requires { ⌜ length (now marks) ≡ 512 ⌝ }
     ensures { λ r. ⌜ Drawn (now (marks .entry)) 512 (r .list) (r .n) ⌝ }
 {
@@ -83,7 +83,7 @@ fn entered(marks: &[u8], table: &mut [u8], m: u16)
 }
 
 // Fills the table with the numbers of the masks that are marked.
-pub fn tabled(marks: &[u8], table: &mut [u8])
+pub(crate) fn tabled(marks: &[u8], table: &mut [u8])
     requires { ⌜ Marks (now marks) × (length (now table) ≡ 9216) ⌝ }
     ensures { λ _. ⌜ Tabled (now (marks .entry)) 512 (now (table .exit)) ⌝ }
 {

@@ -1,6 +1,6 @@
 -- A node's invariant: of the masks that have the number those from r on were tried. The measure is what document 01's form names: the remaining extents and
 -- the remaining stages of the list, doubled so that it falls from node to stage too.
-use mathlib.Core.Path.{_≡_, subst}
+use mathlib.Core.Path.{_≡_, refl, subst}
 use mathlib.Core.Bool.{true≢false}
 use mathlib.Core.Logic.{⊎-elim}
 use native.Mathlib.Omega.{arith}
@@ -8,7 +8,6 @@ use lib.ListN.{length, getD, take, length-take}
 use denote.Ref.{now}
 use borrow.Author.Needs.{needs}
 use borrow.Author.Tests.{not-true, not-false}
-use Rattle.rows.proofs.Known.{field-length}
 use Rattle.completions.specs.Completing.{NoneHere, NoneBefore}
 use Rattle.completions.proofs.Nodes.{Turned, turned-none, turned-more, too-wide, too-high, node-none, stage-replaced, stage-passed, stage-none, some-left}
 use Prim.Native.Nat.{ℕ, _+_, _-_, _*_, _<_, _≤_}
@@ -54,10 +53,10 @@ abbrev stage-claims : ℕ → stage-lts.Claims
 stage-claims t = (replaced-reads.Asked, replaced-reads.Learnt, step-reads.Asked, step-reads.Learnt, node-below t, node.Post)
 
 abbrev node-Inv-loop : node-lts.InvT-loop
-node-Inv-loop here nums cand k w h u i list p n r₀ r = (p ≤ r) × ((r ≤ n) × Turned nums (here .target) (here .rest) (here .path) (here .len) (here .need) cand k (take n list) r)
+node-Inv-loop here nums cand k w h n i list p r₀ r = (p ≤ r) × ((r ≤ n) × Turned nums (here .target) (here .rest) (here .path) (here .len) (here .need) cand k (take n list) r)
 
 abbrev node-μ-loop : node-lts.MeasureT-loop
-node-μ-loop here nums cand k w h u i list p n r₀ r = r
+node-μ-loop here nums cand k w h n i list p r₀ r = r
 
 node-array-read-w : (t : ℕ) → node-lts.Need-array-read-w (node-claims t) (node-at t) node.Post node-Inv-loop node-μ-loop
 node-array-read-w t c = search needs
@@ -87,7 +86,9 @@ node-returns-3 : (t : ℕ) → node-lts.Need-returns-3 (node-claims t) (node-at 
 node-returns-3 t c = λ e. too-high _ _ _ _ _ _ _ _ (c .if4 .taken)
 
 node-fitted-requires : (t : ℕ) → node-lts.Need-fitted-requires (node-claims t) (node-at t) node.Post node-Inv-loop node-μ-loop
-node-fitted-requires t c κs = search needs
+node-fitted-requires t c κs =
+    let st = c .before .before .before .before .before .before .before in
+    (st .pre .1 .1 .0, (st .pre .1 .1 .1, refl))
 
 node-tally-requires : (t : ℕ) → node-lts.Need-tally-requires (node-claims t) (node-at t) node.Post node-Inv-loop node-μ-loop
 node-tally-requires t c κs = search needs
@@ -99,17 +100,24 @@ node-returns-4 : (t : ℕ) → node-lts.Need-returns-4 (node-claims t) (node-at 
 node-returns-4 t c = λ e. absurd (true≢false e)
 
 node-split-requires : (t : ℕ) → node-lts.Need-split-requires (node-claims t) (node-at t) node.Post node-Inv-loop node-μ-loop
-node-split-requires t c κs = search needs
+node-split-requires t c κs =
+    let fit = c .before .before .before .before .before .before .fitted .ensures in
+    let room = fit .room in
+    let st = c .before .before .before .before .before .before .before .before .before .before .before .before .before .before in
+    let i = c .before .before .before .scarce .ensures in
+    (st .pre .1 .1 .0, (omega arith, (omega arith, refl)))
 
 node-loop-holds : (t : ℕ) → node-lts.Need-loop-holds (node-claims t) (node-at t) node.Post node-Inv-loop node-μ-loop
 node-loop-holds t c =
-    let s = c .before .split in
-    let long = field-length 512 (s .result .list) (s .ok .1 .1 .0 .1 .0 .1) in
-    let few = s .ensures .few in
-    let fit = c .before .before .before .before .before .before .before .before .fitted .ensures in
+    let s = c .split in
+    let list = s .last .1 .1 .1 .1 .0 in
+    let n = c .before .before .before .before .before .before .before .fitted .result in
+    let fit = c .before .before .before .before .before .before .before .fitted .ensures in
     let room = fit .room in
     let fewer = fit .few in
-    (s .ensures .order, (omega arith, turned-none _ _ _ _ _ _ _ _ (take (s .result .n) (s .result .list)) _ (omega (arith, length-take (s .result .n) (s .result .list)))))
+    let long = s .ensures .long in
+    let order = s .ensures .order in
+    (order, (omega arith, turned-none _ _ _ _ _ _ _ _ (take n list) _ (omega (arith, length-take n list))))
 
 node-sub-stage : (t : ℕ) → node-lts.Need-sub-stage (node-claims t) (node-at t) node.Post node-Inv-loop node-μ-loop
 node-sub-stage t c = search needs
@@ -119,28 +127,32 @@ node-part-stage-start t c = search needs
 
 node-part-stage-end : (t : ℕ) → node-lts.Need-part-stage-end (node-claims t) (node-at t) node.Post node-Inv-loop node-μ-loop
 node-part-stage-end t c =
-    let s = c .before .before .before .before .split in
-    let long = field-length 512 (s .result .list) (s .ok .1 .1 .0 .1 .0 .1) in
-    let few = s .ensures .few in
-    let fit = c .before .before .before .before .before .before .before .before .before .before .before .fitted .ensures in
+    let s = c .before .before .before .split in
+    let list = s .last .1 .1 .1 .1 .0 in
+    let n = c .before .before .before .before .before .before .before .before .before .before .fitted .result in
+    let fit = c .before .before .before .before .before .before .before .before .before .before .fitted .ensures in
     let room = fit .room in
     let fewer = fit .few in
+    let long = s .ensures .long in
+    let order = s .ensures .order in
     omega arith
 
 node-stage-requires : (t : ℕ) → node-lts.Need-stage-requires (node-claims t) (node-at t) node.Post node-Inv-loop node-μ-loop
 node-stage-requires t c κs =
-    let s = c .before .before .before .before .before .split in
-    let long = field-length 512 (s .result .list) (s .ok .1 .1 .0 .1 .0 .1) in
-    let few = s .ensures .few in
-    let fit = c .before .before .before .before .before .before .before .before .before .before .before .before .fitted .ensures in
+    let s = c .before .before .before .before .split in
+    let list = s .last .1 .1 .1 .1 .0 in
+    let n = c .before .before .before .before .before .before .before .before .before .before .before .fitted .result in
+    let fit = c .before .before .before .before .before .before .before .before .before .before .before .fitted .ensures in
     let room = fit .room in
     let fewer = fit .few in
+    let long = s .ensures .long in
+    let order = s .ensures .order in
     let st = c .before .before .before .before .before .before .before .before .before .before .before .before .before .before .before .before .before .before .before in
     let need = st .args .here .need in
     let k = st .args .k in
     let some : 0 < k = some-left (getD need 16 0) (getD need 17 0) k (λ e f. ⊎-elim (λ w. w .1 .left f) (λ w. w .left e) (c .before .before .before .before .before .before .before .before .before .before .before .before .before .before .before .if1 .came)) (c .before .before .before .before .before .before .before .before .before .before .before .before .before .before .if3 .left) (c .before .before .before .before .before .before .before .before .before .before .before .before .before .if4 .left) in
     let r = c .before .before .before .loop .r in
-    let part : length (take (s .result .n - 0) (s .result .list)) ≡ s .result .n = omega (arith, length-take (s .result .n - 0) (s .result .list)) in
+    let part : length (take (n - 0) list) ≡ n = omega (arith, length-take (n - 0) list) in
     (omega arith, (some, (st .pre .1 .0, (st .pre .1 .1 .0, (omega arith, (omega (arith, part), omega (arith, part)))))))
 
 node-returns-5 : (t : ℕ) → node-lts.Need-returns-5 (node-claims t) (node-at t) node.Post node-Inv-loop node-μ-loop
@@ -154,36 +166,33 @@ node-loop-less t c = search needs
 
 node-loop-again : (t : ℕ) → node-lts.Need-loop-again (node-claims t) (node-at t) node.Post node-Inv-loop node-μ-loop
 node-loop-again t c =
-    let s = c .before .before .before .before .before .before .before .split in
-    let long = field-length 512 (s .result .list) (s .ok .1 .1 .0 .1 .0 .1) in
-    let few = s .ensures .few in
-    let fit = c .before .before .before .before .before .before .before .before .before .before .before .before .before .before .fitted .ensures in
+    let s = c .before .before .before .before .before .before .split in
+    let list = s .last .1 .1 .1 .1 .0 in
+    let n = c .before .before .before .before .before .before .before .before .before .before .before .before .before .fitted .result in
+    let fit = c .before .before .before .before .before .before .before .before .before .before .before .before .before .fitted .ensures in
     let room = fit .room in
     let fewer = fit .few in
+    let long = s .ensures .long in
+    let order = s .ensures .order in
     let st = c .before .before .before .before .before .before .before .before .before .before .before .before .before .before .before .before .before .before .before .before .before in
     let h = st .args .here in
     let r = c .before .before .before .before .before .loop .r in
     let inv = c .before .before .before .before .before .loop .inv in
-    let whole : s .result .n - 0 ≡ s .result .n = omega arith in (
+    let whole : n - 0 ≡ n = omega arith in (
       omega arith,
       (
         omega arith,
-        turned-more _ _ _ _ _ _ _ _ (take (s .result .n) (s .result .list)) r (omega arith) (omega (arith, length-take (s .result .n) (s .result .list))) (inv .1 .1)
-            (subst (λ (n : ℕ). NoneBefore (now (st .args .nums)) (h .target) (h .rest) (h .path) (h .len) (h .need) (take n (s .result .list)) r (st .args .k)) whole (c .before .stage .ensures (c .if6 .left))),
+        turned-more _ _ _ _ _ _ _ _ (take n list) r (omega arith) (omega (arith, length-take n list)) (inv .1 .1)
+            (subst (λ (u : ℕ). NoneBefore (now (st .args .nums)) (h .target) (h .rest) (h .path) (h .len) (h .need) (take u list) r (st .args .k)) whole (c .before .stage .ensures (c .if6 .left))),
       ),
     )
 
 node-returns-6 : (t : ℕ) → node-lts.Need-returns-6 (node-claims t) (node-at t) node.Post node-Inv-loop node-μ-loop
 node-returns-6 t c = λ e.
-    let s = c .before .before .before .split in
-    let long = field-length 512 (s .result .list) (s .ok .1 .1 .0 .1 .0 .1) in
-    let few = s .ensures .few in
-    let fit = c .before .before .before .before .before .before .before .before .before .before .fitted .ensures in
-    let room = fit .room in
-    let fewer = fit .few in
+    let s = c .before .before .split in
     let i = c .before .before .before .before .before .before .scarce in
-    let f = c .before .before .before .before .before .before .before .before .before .before .fitted in
-    node-none _ _ _ _ _ _ _ _ (f .result .list) (f .result .n) (f .ensures) _ (s .result .list) (s .result .p) (s .result .n) (s .ensures) long (c .before .loop .r) (omega arith) (i .ensures .1 (omega arith)) (omega arith)
+    let f = c .before .before .before .before .before .before .before .before .before .fitted in
+    node-none _ _ _ _ _ _ _ _ (f .last .1 .1 .1 .0) (f .result) (f .ensures) _ (s .last .1 .1 .1 .1 .0) (s .result) (s .ensures) (c .before .loop .r) (omega arith) (i .ensures .1 (omega arith)) (omega arith)
     (c .before .loop .inv .1 .1)
 
 stage-sub-m : (t : ℕ) → stage-lts.Need-sub-m (stage-claims t) (stage-at t) stage.Post

@@ -17,7 +17,7 @@ abbrev μ-loop : tie.MeasureT-loop
 μ-loop need nums cand list₀ n₀ j₀ list n j = length cand - j
 
 loop-holds : tie.Need-loop-holds Inv-loop μ-loop
-loop-holds c = (omega arith, fitted-none _ _ _ _ refl)
+loop-holds c = (omega arith, fitted-none _ _ _ _ (c .before .before .pre .1 .1))
 
 mul-m : tie.Need-mul-m Inv-loop μ-loop
 mul-m c = search needs
@@ -31,8 +31,8 @@ fitting-requires c κs = search needs
 mul-list : tie.Need-mul-list Inv-loop μ-loop
 mul-list c = search needs
 
-array-write-list : tie.Need-array-write-list Inv-loop μ-loop
-array-write-list c = search needs
+element-write-list : tie.Need-element-write-list Inv-loop μ-loop
+element-write-list c = search needs
 
 add-n : tie.Need-add-n Inv-loop μ-loop
 add-n c = search needs
@@ -66,7 +66,7 @@ fitted-spec =
     shared-slice-read-m
     fitting-requires
     mul-list
-    array-write-list
+    element-write-list
     add-n
     add-j
     loop-less

@@ -16,7 +16,7 @@ abbrev μ-loop : tie.MeasureT-loop
 μ-loop nums i xs n list₀ other₀ p₀ q₀ j₀ list other p q j = n - j
 
 loop-holds : tie.Need-loop-holds Inv-loop μ-loop
-loop-holds c = (omega arith, split-none _ _ _ _ _ refl refl)
+loop-holds c = (omega arith, split-none _ _ _ _ _ (c .before .pre .1 .1 .1) refl)
 
 mul-m : tie.Need-mul-m Inv-loop μ-loop
 mul-m c = search needs
@@ -30,8 +30,8 @@ having-requires c κs = search needs
 mul-list : tie.Need-mul-list Inv-loop μ-loop
 mul-list c = search needs
 
-array-write-list : tie.Need-array-write-list Inv-loop μ-loop
-array-write-list c = search needs
+element-write-list : tie.Need-element-write-list Inv-loop μ-loop
+element-write-list c = search needs
 
 sub-p : tie.Need-sub-p Inv-loop μ-loop
 sub-p c = search needs
@@ -60,20 +60,22 @@ loop-again c =
     (omega arith, split-more _ _ _ (h .list) (h .other) (h .p) (h .q) (h .j) _ _ (omega arith) refl (c .having .ensures .0) (c .having .ensures .1) (h .inv .1))
 
 joined-requires : tie.Need-joined-requires Inv-loop μ-loop
-joined-requires c κs = search needs
+joined-requires c κs =
+    let h = c .before .before .before .loop .inv .1 in
+    let few = h .few in
+    (omega arith, h .list-long)
 
 returns : tie.Need-returns Inv-loop μ-loop
 returns c =
-    let h = c .before .before .before .loop .inv .1 in
+    let h = c .before .before .before .before .loop .inv .1 in
     let few = h .few in
     let k = c .joined .ensures in
-    let e = k .sizes in
     record {
-      all = λ m b a. ⊎-elim (k .first m) (k .behind m) (h .all m b (among-more _ _ _ m (omega arith) a));
-      only = λ m a. among-more _ _ _ m (omega arith) (h .only m (k .only m a));
+      all = λ m b a. among-more _ _ _ m (omega arith) (⊎-elim (k .first m) (k .behind m) (h .all m b (among-more _ _ _ m (omega arith) a)));
+      only = λ m a. among-more _ _ _ m (omega arith) (h .only m (k .only m (among-more _ _ _ m (omega arith) a)));
       without = λ m b a. h .without m b (k .back m a);
-      order = omega (arith, e .0, e .1);
-      few = omega (arith, e .1);
+      order = omega arith;
+      long = k .long;
     }
 
 pub split-spec : {M : Type 1} → statement M
@@ -87,7 +89,7 @@ split-spec =
     element-copy-out-m
     having-requires
     mul-list
-    array-write-list
+    element-write-list
     sub-p
     add-p
     mul-other
