@@ -3,7 +3,7 @@ use mathlib.Core.Path.{_≡_, refl, sym, ap, subst, _∙_}
 use mathlib.Core.Bool.{Bool}
 use mathlib.Core.Logic.{_⊎_, inl, inr, ⊎-elim}
 use mathlib.Core.List.{List, [], _∷_}
-use Prim.Native.Nat.{ℕ, suc, _+_, _-_, _*_, _≤_, _<_}
+use Prim.Native.Nat.{ℕ, suc, _-_, _*_, _≤_, _<_}
 use native.Mathlib.Omega.{arith}
 use native.Mathlib.Nat.{eq-or-lt-of-le}
 use native.Mathlib.Decide.{ℕ-discrete}
@@ -11,10 +11,10 @@ use lib.Dec.{T}
 use lib.ListN.{length, getD}
 use Rattle.plane.specs.Lists.{In}
 use Rattle.edges.specs.Edges.{summed}
-use Rattle.rows.specs.Cells.{Cells, Same, Sum, AtMask, AtSum}
+use Rattle.rows.specs.Cells.{Cells, Sum, AtMask}
 use Rattle.completions.specs.Completing.{Fills, Among, From, None, NoneWith, Tried, Open, Fit, Replaces}
 use Rattle.completions.proofs.Loops.{among-more}
-use Rattle.completions.proofs.Members.{Out, some-or, with-one, without-one, taken-out, replaced}
+use Rattle.completions.proofs.Members.{Out, some-or, without-one, taken-out, replaced}
 
 -- ---- numbers of a list
 

@@ -1,13 +1,13 @@
 -- Sums and residues by a mask: cutting to the window on the way loses nothing, since coordinates only grow; and what completes a sum makes up the target with the residue.
 use mathlib.Core.Path.{_≡_, refl, sym, ap, subst, _∙_}
 use mathlib.Core.List.{List, _∷_}
-use Prim.Native.Nat.{ℕ, zero, suc, _+_, _*_, _<_}
+use Prim.Native.Nat.{ℕ, zero, suc, _+_, _*_}
 use native.Mathlib.Omega.{arith}
 use native.Mathlib.Numerals.{add-one}
 use lib.Bits.{bitAnd}
 use lib.ListN.{getD, replicate}
 use Rattle.rows.specs.Cells.{Cells, Same, Sum, Residue, At, AtMask, AtOrigin, AtSum, CutTo, chosen, bit}
-use Rattle.rows.proofs.Addition.{same-refl, same-sym, same-trans, to-cell, add-cells, sum-both, sum-comm, sum-assoc, sum-origin}
+use Rattle.rows.proofs.Addition.{same-refl, same-sym, same-trans, to-cell, sum-both, sum-comm, sum-assoc, sum-origin}
 use Rattle.rows.proofs.Shifts.{and-on-l}
 use Rattle.rows.proofs.RowBits.{bit-in, no-bit}
 use Rattle.rows.proofs.Sums.{Rows16, in-x, in-y, zero-at}

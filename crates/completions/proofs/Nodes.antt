@@ -1,14 +1,14 @@
 -- What a node and a stage show, in the words of their contracts.
-use mathlib.Core.Path.{_≡_, refl, sym, ap, subst, _∙_}
+use mathlib.Core.Path.{_≡_, refl, sym, subst, _∙_}
 use mathlib.Core.Bool.{Bool, true, false}
-use mathlib.Core.List.{List, _∷_}
-use Prim.Native.Nat.{ℕ, zero, suc, _+_, _-_, _*_, _≤_, _<_}
+use mathlib.Core.List.{List}
+use Prim.Native.Nat.{ℕ, zero, suc, _-_, _*_, _≤_, _<_}
 use native.Mathlib.Omega.{arith}
 use lib.Dec.{T}
 use lib.ListN.{length, getD, take, length-take}
 use lib.Seq.{getD-take}
-use Rattle.rows.specs.Cells.{Cells, Same, Sum, At, AtMask, AtSum, chosen}
-use Rattle.completions.specs.Completing.{Fills, Among, None, NoneWith, Tried, Fit, Replaces, numberIn, Ready, Stepped, Fitting, Split, Allowed, NoneHere, NoneBefore, NoSum}
+use Rattle.rows.specs.Cells.{Cells, Sum, At, AtMask, AtSum, chosen}
+use Rattle.completions.specs.Completing.{Among, None, NoneWith, Tried, Fit, Replaces, numberIn, Ready, Stepped, Fitting, Split, Allowed, NoneHere, NoneBefore, NoSum}
 use Rattle.completions.proofs.Loops.{among-more}
 use Rattle.completions.proofs.Stepping.{stepped-fills}
 use Rattle.completions.proofs.Branches.{tried-none, tried-more, none-below, passed-over, replaced-gone, branch-end, drawn, too-few}

@@ -1,10 +1,10 @@
 -- What the plain search is answered: the state below, or why k masks of the list or fewer do not complete the sum with the mask.
 use mathlib.Core.Path.{_≡_, refl, sym, _∙_}
 use mathlib.Core.Bool.{Bool, true, false, true≢false, false≢true}
-use mathlib.Core.List.{List, _∷_}
-use Prim.Native.Nat.{ℕ, _+_, _≤_, _<_}
+use mathlib.Core.List.{List}
+use Prim.Native.Nat.{ℕ, _≤_}
 use lib.Dec.{T}
-use lib.ListN.{length, getD}
+use lib.ListN.{length}
 use Rattle.rows.specs.Cells.{Sum, At, AtMask, AtSum, chosen}
 use Rattle.completions.specs.Completing.{Fills, From, Ready, Allowed, Stepped, NoneHere}
 use Rattle.completions.specs.Opening.{Room, Opened}

@@ -1,19 +1,18 @@
 -- The state below a mask: its residue, the numbers that are needed and the path; and why nothing completes a sum with a mask that is passed over.
-use mathlib.Core.Path.{_≡_, refl, sym, ap, subst, _∙_}
+use mathlib.Core.Path.{_≡_, refl, sym, subst}
 use mathlib.Core.Bool.{Bool, true, false, true≢false, false≢true}
 use mathlib.Core.Logic.{inl, inr, ⊎-elim}
 use mathlib.Core.List.{List, [], _∷_}
-use Prim.Native.Nat.{ℕ, zero, suc, _+_, _-_, _≤_, _<_}
+use Prim.Native.Nat.{ℕ, _+_, _-_, _≤_, _<_}
 use native.Mathlib.Omega.{arith}
 use native.Mathlib.Nat.{eq-or-lt-of-le}
-use native.Mathlib.Numerals.{add-one}
 use lib.Dec.{T}
 use lib.ListN.{length, getD, set}
-use lib.Seq.{getD-set-same, getD-set-other}
 use Rattle.plane.specs.Lists.{In}
 use Rattle.edges.specs.Edges.{summed}
 use Rattle.rows.specs.Cells.{Cells, Same, Sum, Residue, At, AtMask, AtSum, CutTo, chosen}
-use Rattle.rows.proofs.Addition.{same-refl, same-sym, same-trans, to-cell, add-cells, sum-both, sum-comm, sum-assoc}
+use Rattle.rows.proofs.Chosen.{chosen-more}
+use Rattle.rows.proofs.Addition.{same-sym, same-trans, to-cell, add-cells, sum-comm}
 use Rattle.rows.proofs.Sums.{Rows16, in-x, in-y}
 use Rattle.completions.specs.Completing.{Fills, Open, Fit, Differs, Spans, Unmet, Masks, Ready, Stepped, numberIn}
 use Rattle.completions.proofs.Members.{down, down-counts, not-fit, in-rest, fills-same}
@@ -28,20 +27,6 @@ open-same permitted num A X Y R need e o = record {
   });
   counts = λ L f. o .counts L (fills-same permitted A Y X L (same-sym e) f);
 }
-
--- ---- the path with one mask more
-
-chosen-kept : (path : List ℕ) (n i v : ℕ) → n ≤ i → chosen (set path i v) n ≡ chosen path n
-unfolding chosen
-chosen-kept path zero i v l = refl
-chosen-kept path (suc n) i v l = ap (λ (k : ℕ). k ∷ chosen (set path i v) n) (getD-set-other path i n v 0 (λ e. omega arith)) ∙ ap (λ (ms : List ℕ). getD path n 0 ∷ ms) (chosen-kept path n i v (omega arith))
-
-chosen-suc : (path : List ℕ) (n v : ℕ) → n < length path → chosen (set path n v) (suc n) ≡ v ∷ chosen path n
-unfolding chosen
-chosen-suc path n v l = ap (λ (k : ℕ). k ∷ chosen (set path n v) n) (getD-set-same path n v 0 l) ∙ ap (λ (ms : List ℕ). v ∷ ms) (chosen-kept path n n v (omega arith))
-
-pub chosen-more : (path : List ℕ) (n v : ℕ) → n < length path → chosen (set path n v) (n + 1) ≡ v ∷ chosen path n
-chosen-more path n v l = ap (chosen (set path n v)) (add-one n) ∙ chosen-suc path n v l
 
 -- ---- extents
 

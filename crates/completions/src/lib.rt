@@ -10,8 +10,8 @@ pub use steps::Here;
 pub use steps::finished;
 ghost use mathlib.Core.Path.{_≡_};
 ghost use mathlib.Core.Bool.{true, false};
-ghost use Prim.Native.Nat.{ℕ, _+_, _≤_, _<_};
-ghost use lib.ListN.{length, getD};
+ghost use Prim.Native.Nat.{_+_, _≤_, _<_};
+ghost use lib.ListN.{length};
 ghost use Rattle.completions.specs.Completing.{NoneHere, NoneBefore, NoSum};
 ghost use Rattle.completions.specs.Opening.{Opened};
 

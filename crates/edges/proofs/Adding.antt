@@ -122,12 +122,3 @@ module _ {i : ℕ} where
   pub number-sums : (num : ℕ → ℕ) (ms : List ℕ) → ((m : ℕ) → In ms m → Number i (AtMask m) (num m)) → Number i (AtSum ms) (summed num ms)
   number-sums num [] f = number-origin
   number-sums num (m ∷ ms) f = number-sum (f m (inl refl)) (number-sums num ms (λ k h. f k (inr h)))
-
--- ---- masks
-pub width-small : (m v : ℕ) → Number 16 (AtMask m) v → v ≤ 2
-unfolding plusX plusY minusX minusY firstOf secondOf timesOf
-width-small m v n = omega (arith, n .value, n .first .cell .column)
-
-pub height-small : (m v : ℕ) → Number 17 (AtMask m) v → v ≤ 2
-unfolding plusX plusY minusX minusY firstOf secondOf timesOf
-height-small m v n = omega (arith, n .value, n .first .cell .row)

@@ -2,7 +2,6 @@
 // of each row are enough; each number then puts the greatest values of three directions together. greatest_of and greatest_in are the greatest values themselves,
 // of rows and of one row, and first_in is a row's first column.
 ghost use mathlib.Core.Path.{_≡_};
-ghost use mathlib.Core.List.{List};
 ghost use Prim.Native.Nat.{ℕ, _+_, _*_, _≤_, _<_};
 ghost use lib.ListN.{getD};
 ghost use Rattle.edges.specs.Numbers.{FirstIn, LastIn, Greater, Raised, Clipped, Topped, RowTopped, Fits, Numbered};

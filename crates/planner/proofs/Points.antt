@@ -29,7 +29,7 @@ use Rattle.elements.specs.Standing.{place, pointsOf}
 use Rattle.elements.proofs.Stands.{points-of, sound-cell}
 use Rattle.elements.proofs.Windows.{corner-is}
 use Rattle.shaping.specs.Steps.{StandsFor}
-use Rattle.search.proofs.Answers.{length-chosen}
+use Rattle.rows.proofs.Chosen.{length-chosen}
 use Rattle.search.proofs.Lengths.{at-most-30}
 use Rattle.search.specs.Plans.{SumsTo, Found, Shortest}
 use Rattle.planning.specs.Planning.{PlanWritten, Unplannable}

@@ -9,7 +9,7 @@ use lib.Seq.{take-suc, take-length, drop-set-lt}
 use Rattle.words.specs.Word.{headWord, placeWord, stageWord}
 use Rattle.lists.proofs.Written.{Written, written-more}
 use Rattle.rows.specs.Cells.{chosen}
-use Rattle.search.proofs.Answers.{length-chosen}
+use Rattle.rows.proofs.Chosen.{length-chosen}
 use Rattle.planner.specs.Written.{wordsOf, WrittenPlan}
 
 -- stage i of n is at n − 1 − i

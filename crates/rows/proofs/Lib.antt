@@ -9,3 +9,4 @@ pub mod MaskRows
 pub mod Joins
 pub mod Known
 pub mod Addition
+pub mod Chosen

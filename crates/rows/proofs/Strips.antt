@@ -1,19 +1,19 @@
 -- Sums and residues by a mask, nine cells alike: what each cell of the mask moves, what its three bits of a row make together, and the three rows of the mask.
 use mathlib.Core.Path.{_≡_, refl, sym, ap, subst, _∙_}
-use mathlib.Core.Logic.{_⊎_, inl, inr, ⊎-elim}
+use mathlib.Core.Logic.{_⊎_, ⊎-elim}
 use mathlib.Core.List.{List}
 use Prim.Native.Nat.{ℕ, zero, suc, _+_, _-_, _*_, _/_, _%_, _^_, _≤_, _<_}
 use native.Mathlib.Omega.{arith}
 use native.Mathlib.Nat.{add-comm}
 use lib.Bits.{bitAnd, bitOr}
-use lib.ListN.{length, getD, List·getD-eq-default}
+use lib.ListN.{getD, List·getD-eq-default}
 use Rattle.plane.proofs.Tests.{lt-or-le}
 use Rattle.rows.specs.Cells.{Sum, Residue, At, AtMask, bit, CutTo}
 use Rattle.rows.specs.Leaves.{movedOf, strip, heldOf, hold}
 use Rattle.rows.proofs.Fill.{Filled}
 use Rattle.rows.proofs.RowBits.{bit-shr, no-bit}
 use Rattle.rows.proofs.Shifts.{or-on, on-or-l, on-or-r, and-on-l, and-on-r, on-and, on-shl, shl-on}
-use Rattle.rows.proofs.Sums.{Rows16, in-x, in-y, ones16}
+use Rattle.rows.proofs.Sums.{Rows16, ones16}
 
 -- ---- rows with two more around them
 

@@ -1,4 +1,4 @@
--- The sums and residues of rows, a row and a bit at a time; rows with the same cells.
+-- The sums of rows, a row and a bit at a time; rows with the same cells.
 use mathlib.Core.Path.{_≡_, refl, sym, ap, subst, _∙_}
 use mathlib.Core.Logic.{_⊎_, inl, inr, ⊎-elim}
 use mathlib.Core.List.{List}
@@ -6,11 +6,11 @@ use Prim.Native.Nat.{ℕ, zero, suc, _+_, _-_, _*_, _/_, _%_, _^_, _≤_, _<_}
 use native.Mathlib.Omega.{arith}
 use native.Mathlib.Nat.{eq-or-lt-of-le, pow-suc, div-lt-iff-lt-mul}
 use native.Mathlib.Numerals.{add-one}
-use lib.ListN.{length, getD, replicate, getD-replicate, List·getD-eq-default}
+use lib.ListN.{length, getD, replicate, List·getD-eq-default}
 use lib.Pow.{pow-pos, ones-split, high, ones-lt}
 use Rattle.plane.proofs.Tests.{lt-or-le}
 use Rattle.rows.specs.Cells.{Same, bit, At}
-use Rattle.rows.specs.Leaves.{Onto, Under, RowSum, SumTo, SumOf, RowResidue, ResidueTo, ResidueOf}
+use Rattle.rows.specs.Leaves.{Onto, RowSum, SumTo, SumOf}
 use Rattle.rows.proofs.RowBits.{bits-ext, bit-in, no-bit, bit-shr}
 
 pub last-or : (q n : ℕ) → q < n + 1 → (q ≡ n) ⊎ (q < n)
@@ -120,38 +120,7 @@ module _ (a b : List ℕ) where
         (p .from (s .x2) (s .y2) (in-y b wb (s .x2) (s .y2) (s .right)) (s .right) (s .x1) (s .y1) (s .left) (omega (arith, s .at-x)) (omega (arith, s .at-y))));
   }
 
--- ---- residues
-module _ (z t : List ℕ) (b j : ℕ) where
-  pub row-residue-none : RowResidue z t b j 0 z
-  row-residue-none = record { kept = λ x y h. h; to = λ x y h i l. absurd (omega arith); from = λ x y h f. h }
-
-  pub row-residue-on : (n : ℕ) (r s : List ℕ) → RowResidue z t b j n r → bit b n ≡ 1 → Under r t n j s → RowResidue z t b j (n + 1) s
-  row-residue-on n r s p e o = record {
-    kept = λ x y h. p .kept x y (o .kept x y h);
-    to = λ x y h i l u. ⊎-elim
-        (λ q. subst (λ (k : ℕ). At t (x + k) (y + j)) (sym q) (o .to x y h))
-        (λ q. p .to x y (o .kept x y h) i q u)
-        (last-or i n l);
-    from = λ x y h f. o .from x y (p .from x y h (λ i l. f i (omega arith))) (f n (omega arith) e);
-  }
-
-  pub row-residue-off : (n : ℕ) (r : List ℕ) → RowResidue z t b j n r → (bit b n ≡ 1 → ⊥) → RowResidue z t b j (n + 1) r
-  row-residue-off n r p e = record {
-    kept = p .kept;
-    to = λ x y h i l u. ⊎-elim
-        (λ q. absurd (e (subst (λ (k : ℕ). bit b k ≡ 1) q u)))
-        (λ q. p .to x y h i q u)
-        (last-or i n l);
-    from = λ x y h f. p .from x y h (λ i l. f i (omega arith));
-  }
-
-  pub row-residue-end : (n : ℕ) (r : List ℕ) → n ≤ 16 → b / 2 ^ n ≡ 0 → RowResidue z t b j n r → RowResidue z t b j 16 r
-  row-residue-end n r m e p = record {
-    kept = p .kept;
-    to = λ x y h i l u. p .to x y h i (bit-in n b i (low-of b n e) u) u;
-    from = λ x y h f. p .from x y h (λ i l u. f i (omega arith) u);
-  }
-
+-- ---- a word of ones
 -- each bit of 2 ^ (d + 1 + x) - 1 at x is set
 ones-at : (d x : ℕ) → bit (2 ^ (d + 1 + x) - 1) x ≡ 1
 ones-at d x = ap (λ (n : ℕ). bit n x) (ones-split (d + 1) x) ∙ ap (λ (n : ℕ). n % 2) (high (2 ^ (d + 1) - 1) x (ones-lt x))
@@ -162,37 +131,6 @@ ones-at d x = ap (λ (n : ℕ). bit n x) (ones-split (d + 1) x) ∙ ap (λ (n : 
 
 pub ones16 : (x : ℕ) → x < 16 → bit 65535 x ≡ 1
 ones16 x h = let e : 16 - x - 1 + 1 + x ≡ 16 = omega arith in subst (λ (k : ℕ). bit (2 ^ k - 1) x ≡ 1) e (ones-at (16 - x - 1) x)
-
-module _ (t b : List ℕ) where
-  pub residue-none : ResidueTo t b 0 (replicate 16 65535)
-  residue-none = record {
-    to = λ x y h i j l. absurd (omega arith);
-    from = λ x y u v f. ap (λ (n : ℕ). bit n x) (getD-replicate 16 y 65535 0 v) ∙ ones16 x u;
-  }
-
-  pub residue-more : Rows16 b → (n : ℕ) (r s : List ℕ) → ResidueTo t b n r → RowResidue r t (getD b n 0) n 16 s → ResidueTo t b (n + 1) s
-  residue-more wb n r s p o = record {
-    to = λ x y h i j l u. ⊎-elim
-        (λ q. subst (λ (k : ℕ). At t (x + i) (y + k)) (sym q) (o .to x y h i (in-x b wb i j u) (subst (λ (k : ℕ). At b i k) q u)))
-        (λ q. p .to x y (o .kept x y h) i j q u)
-        (last-or j n l);
-    from = λ x y u v f. o .from x y (p .from x y u v (λ i j l. f i j (omega arith))) (λ i l e. f i n (omega arith) e);
-  }
-
-  pub residue-skip : (n : ℕ) (r : List ℕ) → getD b n 0 ≡ 0 → ResidueTo t b n r → ResidueTo t b (n + 1) r
-  residue-skip n r z p = record {
-    to = λ x y h i j l u. ⊎-elim
-        (λ q. absurd (no-bit i (ap (λ (k : ℕ). bit k i) (sym z) ∙ subst (λ (k : ℕ). At b i k) q u)))
-        (λ q. p .to x y h i j q u)
-        (last-or j n l);
-    from = λ x y u v f. p .from x y u v (λ i j l. f i j (omega arith));
-  }
-
-  pub residue-done : Rows16 b → (r : List ℕ) → ResidueTo t b 16 r → ResidueOf t b r
-  residue-done wb r p = record {
-    to = λ x y h. record { all = λ i j u. p .to x y h i j (in-y b wb i j u) u };
-    from = λ x y f u v. p .from x y u v (λ i j l e. f .all i j e);
-  }
 
 -- ---- the same cells
 pub bit-same : (p q x : ℕ) → (bit p x ≡ 1 → bit q x ≡ 1) → (bit q x ≡ 1 → bit p x ≡ 1) → bit p x ≡ bit q x

@@ -4,7 +4,7 @@ use mathlib.Core.Logic.{_⊎_}
 use mathlib.Core.List.{List}
 use Prim.Native.Nat.{ℕ, _+_, _-_, _*_, _/_, _%_, _^_, _<_}
 use lib.Bits.{bitAnd, bitOr}
-use Rattle.rows.specs.Cells.{Cells, Sum, Residue, At, bit}
+use Rattle.rows.specs.Cells.{Cells, Sum, At, bit}
 
 -- (x, y) is a cell of X moved by (i, j)
 pub record MovedCell (X : Cells) (i j x y : ℕ) : Type 0 where
@@ -31,11 +31,6 @@ pub record SumOf (a b r : List ℕ) : Type 0 where
   pub to : (x y : ℕ) → At r x y → Sum (At a) (At b) x y
   pub from : (x y : ℕ) → Sum (At a) (At b) x y → x < 16 → y < 16 → At r x y
 
--- r is the part of t ⊖ b that lies in the window
-pub record ResidueOf (t b r : List ℕ) : Type 0 where
-  pub to : (x y : ℕ) → At r x y → Residue (At t) (At b) x y
-  pub from : (x y : ℕ) → Residue (At t) (At b) x y → x < 16 → y < 16 → At r x y
-
 -- r is z with a, moved by (i, j) for each bit i < n of b, put onto it
 pub record RowSum (z a : List ℕ) (b j n : ℕ) (r : List ℕ) : Type 0 where
   pub to : (x y : ℕ) → At r x y → At z x y ⊎ ((i : ℕ) × ((bit b i ≡ 1) × MovedCell (At a) i j x y))
@@ -46,17 +41,6 @@ pub record RowSum (z a : List ℕ) (b j n : ℕ) (r : List ℕ) : Type 0 where
 pub record SumTo (a b : List ℕ) (n : ℕ) (r : List ℕ) : Type 0 where
   pub to : (x y : ℕ) → At r x y → Sum (At a) (At b) x y
   pub from : (i j : ℕ) → j < n → At b i j → (x y : ℕ) → At a x y → x + i < 16 → y + j < 16 → At r (x + i) (y + j)
-
--- r is z without the cells that some bit i < n of b does not move into t
-pub record RowResidue (z t : List ℕ) (b j n : ℕ) (r : List ℕ) : Type 0 where
-  pub kept : (x y : ℕ) → At r x y → At z x y
-  pub to : (x y : ℕ) → At r x y → (i : ℕ) → i < n → bit b i ≡ 1 → At t (x + i) (y + j)
-  pub from : (x y : ℕ) → At z x y → ((i : ℕ) → i < n → bit b i ≡ 1 → At t (x + i) (y + j)) → At r x y
-
--- r has the cells of the window that each cell of b before row n moves into t
-pub record ResidueTo (t b : List ℕ) (n : ℕ) (r : List ℕ) : Type 0 where
-  pub to : (x y : ℕ) → At r x y → (i j : ℕ) → j < n → At b i j → At t (x + i) (y + j)
-  pub from : (x y : ℕ) → x < 16 → y < 16 → ((i j : ℕ) → j < n → At b i j → At t (x + i) (y + j)) → At r x y
 
 -- the cells of X and of Y
 abbrev pub Either : Cells → Cells → Cells

@@ -1,12 +1,12 @@
 // Rows of cells as 16-bit words, [u16; 16]: bit x of row y is the cell (x, y), and the window is the 16 × 16 cells that rows can hold.
-// sum_of and residue_of are ⊕ and ⊖ cut to the window, and by_mask has both for a mask; same tests rows; mask_rows, joined, lowered and raised make them.
+// sum_of is ⊕ cut to the window, and by_mask has ⊕ and ⊖ by a mask; same tests rows; mask_rows, joined, lowered and raised make them.
 pub mod by_mask;
 
 ghost use mathlib.Core.Path.{_≡_};
 ghost use mathlib.Core.Bool.{true, false};
 ghost use Prim.Native.Nat.{_<_, _%_};
 ghost use Rattle.rows.specs.Cells.{Same, At, bit, AtMask};
-ghost use Rattle.rows.specs.Leaves.{Onto, Under, SumOf, ResidueOf, RowSum, RowResidue, Either, Lowered, Raised};
+ghost use Rattle.rows.specs.Leaves.{Onto, Under, SumOf, RowSum, Either, Lowered, Raised};
 
 // Whether bit i of a is set.
 fn has(a: u16, i: u32) -> bool
@@ -79,43 +79,6 @@ pub fn sum_of(a: [u16; 16], b: [u16; 16]) -> [u16; 16]
         let row = b[j];
         if row != 0 {
             let next = row_sum(r, a, row, j);
-            r = next;
-        }
-        j += 1;
-    }
-    r
-}
-
-// z without the cells that some cell of the row b, at row j, does not move into t.
-fn row_residue(z: [u16; 16], t: [u16; 16], b: u16, j: usize) -> [u16; 16]
-    requires { ⌜ j < 16 ⌝ }
-    ensures { λ r. ⌜ RowResidue z t b j 16 r ⌝ }
-{
-    let mut r = z;
-    let mut i: u32 = 0;
-    while i < 16 {
-        if b >> i == 0 {
-            return r;
-        }
-        if has(b, i) {
-            let next = under(r, t, i, j);
-            r = next;
-        }
-        i += 1;
-    }
-    r
-}
-
-// The part of t ⊖ b that lies in the window.
-pub fn residue_of(t: [u16; 16], b: [u16; 16]) -> [u16; 16]
-    ensures { λ r. ⌜ ResidueOf t b r ⌝ }
-{
-    let mut r = [65535u16; 16];
-    let mut j = 0;
-    while j < 16 {
-        let row = b[j];
-        if row != 0 {
-            let next = row_residue(r, t, row, j);
             r = next;
         }
         j += 1;

@@ -1,6 +1,6 @@
 -- How an answer follows from the answers below it: at a leaf, past the masks that complete nothing, and with the first stage put before what completes the
 -- sum below it. All of it over any permitted masks.
-use mathlib.Core.Path.{_≡_, refl, sym, ap, subst, _∙_}
+use mathlib.Core.Path.{_≡_, refl, sym, subst, _∙_}
 use mathlib.Core.Bool.{Bool, true, false, not, _&&_, true≢false, false≢true}
 use mathlib.Core.Logic.{⊎-elim}
 use mathlib.Core.List.{List, [], _∷_}
@@ -9,7 +9,7 @@ use native.Mathlib.Nat.{eq-or-lt-of-le, le-refl}
 use native.Mathlib.Omega.{arith}
 use lib.Dec.{T, ltb, eqb, eqb→eq, nltb→le, not-T}
 use lib.ListN.{length, getD, set}
-use lib.Seq.{getD-set-same, getD-set-other}
+use lib.Seq.{getD-set-other}
 use Rattle.plane.specs.Lists.{all}
 use Rattle.plane.proofs.Tests.{T-and, not-or, not-ltb, clash}
 use Rattle.masks.specs.Chain.{falling, smaller}
@@ -20,27 +20,8 @@ use Rattle.search.specs.Tree.{Completes, Answer, NoneWith, Passed}
 use Rattle.search.specs.Asking.{Led}
 use Rattle.completions.specs.Completing.{Among, Ready, Allowed}
 use Rattle.completions.specs.Opening.{Room}
+use Rattle.rows.proofs.Chosen.{chosen-set}
 use Rattle.rows.proofs.Addition.{same-refl, same-sym, same-trans, sum-both, sum-comm, sum-assoc, sum-origin}
-
--- ---- the stages that an array holds
-
-chosen-below : (masks : List ℕ) (i j a : ℕ) → j ≤ i → chosen (set masks i a) j ≡ chosen masks j
-unfolding chosen
-chosen-below masks i zero a h = refl
-chosen-below masks i (suc j) a h = cc (getD-set-other masks i j a 0 (λ e. omega arith), chosen-below masks i j a (omega arith))
-
-chosen-suc : (masks : List ℕ) (j a : ℕ) → j < length masks → chosen (set masks j a) (suc j) ≡ a ∷ chosen masks j
-unfolding chosen
-chosen-suc masks j a h = cc (getD-set-same masks j a 0 h, chosen-below masks j j a (omega arith))
-
--- what is stored at k − 1 is the first of the k stages
-pub chosen-set : (masks : List ℕ) (k a : ℕ) → 0 < k → k ≤ length masks → chosen (set masks (k - 1) a) k ≡ a ∷ chosen masks (k - 1)
-chosen-set masks k a p h = subst (λ (n : ℕ). chosen (set masks (k - 1) a) n ≡ a ∷ chosen masks (k - 1)) (omega arith) (chosen-suc masks (k - 1) a (omega arith))
-
-pub length-chosen : (masks : List ℕ) (k : ℕ) → length (chosen masks k) ≡ k
-unfolding chosen
-length-chosen masks zero = refl
-length-chosen masks (suc k) = ap suc (length-chosen masks k)
 
 -- ---- over any permitted masks
 

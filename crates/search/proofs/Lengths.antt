@@ -17,13 +17,13 @@ use Rattle.masks.proofs.Bounds.{total}
 use Rattle.masks.proofs.Order.{not-before-tied}
 use Rattle.masks.proofs.Reduce.{in-order}
 use Rattle.stages.specs.Reach.{reach}
-use Rattle.rows.specs.Cells.{Cells, Same, Sum, At, AtOrigin, AtSum, chosen}
+use Rattle.rows.specs.Cells.{Cells, Same, Sum, At, AtOrigin, chosen}
 use Rattle.rows.proofs.Sums.{Rows16, in-x, in-y, zero-at}
 use Rattle.extents.specs.Extents.{Greatest, NoCell, row, column}
 use Rattle.search.specs.Plans.{SumsTo, Shortest}
 use Rattle.search.specs.Tree.{Completes, Answer, tries, Marked}
 use Rattle.rows.proofs.Addition.{same-sym, same-trans, sum-comm, sum-origin, sum-cells-same}
-use Rattle.search.proofs.Answers.{length-chosen}
+use Rattle.rows.proofs.Chosen.{length-chosen}
 use Rattle.search.proofs.Marking.{tried-permitted, all-tried}
 use Rattle.search.proofs.Reaches.{greatest-same, greatest-once, sum-reach, total-reach}
 

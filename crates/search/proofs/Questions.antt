@@ -1,11 +1,11 @@
 -- The quick search is asked with the numbers of the marked masks and of the cells; where it says no, no stages sum to the cells.
-use mathlib.Core.Path.{_≡_, refl, sym, subst, _∙_}
-use mathlib.Core.Bool.{Bool, true, false, false≢true}
+use mathlib.Core.Path.{_≡_, refl, sym, subst}
+use mathlib.Core.Bool.{true, false, false≢true}
 use mathlib.Core.List.{List}
 use Prim.Native.Nat.{ℕ, _+_, _≤_, _<_}
 use native.Mathlib.Omega.{arith}
 use lib.Dec.{T}
-use lib.ListN.{length, getD, take, replicate, length-take}
+use lib.ListN.{length, take, replicate, length-take}
 use Rattle.plane.specs.Lists.{In, all}
 use Rattle.plane.proofs.Member.{In-all}
 use Rattle.masks.specs.Mask.{maskCells, stage}
@@ -13,18 +13,18 @@ use Rattle.masks.proofs.Cells.{Low, normal-low, stage-normal, stage-below}
 use Rattle.stages.specs.Reach.{reach}
 use Rattle.stages.proofs.Stages.{reach-some}
 use Rattle.rows.proofs.Bridge.{mask-cells}
-use Rattle.rows.specs.Cells.{Cells, Same, Sum, Residue, At, AtMask, AtOrigin, AtSum, chosen}
-use Rattle.rows.proofs.Addition.{same-sym, same-trans, to-cell, sum-comm, sum-origin}
+use Rattle.rows.specs.Cells.{Cells, Same, Sum, At, AtMask, AtOrigin, AtSum, chosen}
+use Rattle.rows.proofs.Addition.{same-sym, same-trans, to-cell}
 use Rattle.rows.proofs.Sums.{Rows16, in-y, zero-at}
 use Rattle.extents.specs.Extents.{Greatest, row, column}
-use Rattle.edges.specs.Edges.{plusX, plusY, minusX, minusY, firstOf, secondOf, timesOf, Number, summed}
+use Rattle.edges.specs.Edges.{plusX, plusY, minusX, minusY, firstOf, secondOf, timesOf, Number}
 use Rattle.edges.specs.Numbers.{Numbered}
 use Rattle.edges.proofs.Adding.{number-once, number-sums}
-use Rattle.completions.specs.Completing.{Among, Fills, numberIn, Spans, Masks, Open, Allowed, NoSum}
+use Rattle.completions.specs.Completing.{Among, numberIn, Spans, Masks, Open, NoSum}
 use Rattle.completions.proofs.Loops.{among-more}
 use Rattle.completions.proofs.Nodes.{to-part, of-part}
-use Rattle.search.specs.Plans.{SumsTo, Shortest}
-use Rattle.search.specs.Tree.{Answer, Completes, Marked, tries}
+use Rattle.search.specs.Plans.{Shortest}
+use Rattle.search.specs.Tree.{Answer, Marked, tries}
 use Rattle.search.specs.Asking.{Drawn, Tabled, Questioned, Kept}
 use Rattle.search.proofs.Lengths.{from-origin, counts, none-any}
 use Rattle.search.proofs.Marking.{tried-permitted, marks-of, all-tried}

@@ -1,6 +1,6 @@
 -- What trying a stage shows: the partial sum below it, or that no stages lead on from there, by the quick search's answer or by their number.
-use mathlib.Core.Path.{_≡_, refl, sym, ap, _∙_}
-use mathlib.Core.Bool.{Bool, true, false, true≢false, false≢true}
+use mathlib.Core.Path.{_≡_, refl}
+use mathlib.Core.Bool.{Bool, true, false, false≢true}
 use mathlib.Core.Logic.{inl, inr}
 use mathlib.Core.List.{List, [], _∷_}
 use Prim.Native.Nat.{ℕ, _+_, _≤_, _<_}
@@ -11,7 +11,7 @@ use Rattle.plane.specs.Lists.{In, all}
 use Rattle.plane.proofs.Member.{In-all}
 use Rattle.rows.specs.Cells.{Same, Sum, At, AtMask, AtSum, chosen}
 use Rattle.edges.specs.Edges.{summed}
-use Rattle.completions.specs.Completing.{Fills, numberIn, Ready}
+use Rattle.completions.specs.Completing.{Fills, numberIn}
 use Rattle.completions.specs.Opening.{Opened}
 use Rattle.completions.proofs.Opening.{opened-fills}
 use Rattle.search.specs.Asking.{Led}

@@ -7,7 +7,7 @@ use completions::Child;
 use completions::Here;
 ghost use mathlib.Core.Path.{_≡_};
 ghost use mathlib.Core.Bool.{true, false};
-ghost use Prim.Native.Nat.{ℕ, _+_, _≤_, _<_, max, _/_};
+ghost use Prim.Native.Nat.{_+_, _≤_, _<_, max, _/_};
 ghost use lib.Dec.{T, ltb};
 ghost use lib.ListN.{length, getD};
 ghost use Rattle.masks.specs.Mask.{stage as isStage};

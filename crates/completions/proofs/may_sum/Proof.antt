@@ -1,7 +1,6 @@
 -- From the start: the path is empty, and the residue is the target.
 use mathlib.Core.Bool.{true≢false}
 use Rattle.completions.proofs.Nodes.{no-sum}
-use native.Mathlib.Omega.{arith}
 use borrow.Author.Needs.{needs}
 use Rattle.completions.proofs.may_sum.Statement.{statement}
 use Rattle.completions.proofs.may_sum.Tie as tie

@@ -2,7 +2,6 @@
 use mathlib.Core.Bool.{false≢true}
 use Prim.Native.Nat.{_-_, _≤_, _<_}
 use borrow.Author.Tests.{leb-true, leb-false}
-use borrow.Author.Needs.{needs}
 use native.Mathlib.Omega.{arith}
 use Rattle.completions.proofs.roomy.Statement.{statement}
 use Rattle.completions.proofs.roomy.Tie as tie

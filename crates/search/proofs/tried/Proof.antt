@@ -3,7 +3,6 @@ use borrow.Author.Tests.{ltb-true, not-false}
 use denote.Ref.{now}
 use mathlib.Core.Path.{sym, _∙_}
 use Rattle.search.proofs.Trying.{led, led-few}
-use native.Mathlib.Omega.{arith}
 use borrow.Author.Needs.{needs}
 use Rattle.search.proofs.tried.Statement.{statement}
 use Rattle.search.proofs.tried.Tie as tie

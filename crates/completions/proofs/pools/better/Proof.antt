@@ -1,6 +1,5 @@
 -- Only a number that is needed is taken.
 use mathlib.Core.Bool.{false≢true}
-use native.Mathlib.Omega.{arith}
 use borrow.Author.Needs.{needs}
 use Rattle.completions.proofs.pools.better.Statement.{statement}
 use Rattle.completions.proofs.pools.better.Tie as tie

@@ -3,7 +3,6 @@ use mathlib.Core.Path.{_≡_}
 use Prim.Native.Nat.{_≤_, _-_}
 use lib.ListN.{length}
 use borrow.Author.Needs.{needs}
-use native.Mathlib.Omega.{arith}
 use Rattle.completions.proofs.pools.counted.Statement.{statement}
 use Rattle.completions.proofs.pools.counted.Tie as tie
 use Rattle.std.proofs.num.wrapping_add_u16.Reads as wrapping-add-u16-reads

@@ -1,7 +1,6 @@
 -- The measure: the masks left.
 use Prim.Native.Nat.{_≤_, _-_}
 use borrow.Author.Needs.{needs}
-use native.Mathlib.Omega.{arith}
 use Rattle.completions.proofs.pools.tally.Statement.{statement}
 use Rattle.completions.proofs.pools.tally.Tie as tie
 

@@ -3,7 +3,6 @@ use mathlib.Core.Bool.{true≢false}
 use Rattle.rows.specs.Cells.{Sum, At, AtMask}
 use Rattle.rows.proofs.Known.{rows16}
 use Rattle.completions.proofs.Covering.{carried-end}
-use native.Mathlib.Omega.{arith}
 use borrow.Author.Needs.{needs}
 use Rattle.completions.proofs.steps.covers.Statement.{statement}
 use Rattle.completions.proofs.steps.covers.Tie as tie

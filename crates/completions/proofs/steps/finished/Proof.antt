@@ -1,6 +1,6 @@
 -- Where the residue has (0, 0) the sum of the path is in the target, and the rows have all of it.
 use mathlib.Core.Path.{_≡_}
-use mathlib.Core.Bool.{false≢true, true≢false}
+use mathlib.Core.Bool.{false≢true}
 use Prim.Native.Nat.{_/_, _%_}
 use lib.ListN.{getD}
 use Rattle.rows.proofs.Known.{field16}

@@ -1,7 +1,6 @@
 -- The extents by their numbers, and then by the cells.
 use mathlib.Core.Bool.{false≢true}
 use mathlib.Core.Logic.{inl, inr, ⊎-elim}
-use native.Mathlib.Omega.{arith}
 use borrow.Author.Needs.{needs}
 use Rattle.completions.proofs.steps.reaches.Statement.{statement}
 use Rattle.completions.proofs.steps.reaches.Tie as tie

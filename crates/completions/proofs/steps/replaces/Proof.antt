@@ -2,7 +2,6 @@
 use mathlib.Core.Bool.{false≢true}
 use Rattle.rows.proofs.Known.{rows16}
 use Rattle.completions.proofs.Covering.{replacing}
-use native.Mathlib.Omega.{arith}
 use borrow.Author.Needs.{needs}
 use Rattle.completions.proofs.steps.replaces.Statement.{statement}
 use Rattle.completions.proofs.steps.replaces.Tie as tie

@@ -1,8 +1,7 @@
-use native.Mathlib.Omega.{arith}
 use borrow.Author.Needs.{needs}
 use mathlib.Core.Path.{ap}
-use Prim.Native.Nat.{ℕ, _*_, _/_, _%_, _^_}
-use lib.Bits.{bitAnd, bitOr}
+use Prim.Native.Nat.{ℕ, _*_, _%_, _^_}
+use lib.Bits.{bitAnd}
 use Rattle.rows.proofs.by_mask.moved.Statement.{statement}
 use Rattle.rows.proofs.by_mask.moved.Tie as tie
 

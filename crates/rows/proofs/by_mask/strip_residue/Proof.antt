@@ -1,4 +1,3 @@
-use native.Mathlib.Omega.{arith}
 use borrow.Author.Needs.{needs}
 use Rattle.rows.specs.Leaves.{hold}
 use Rattle.rows.proofs.by_mask.strip_residue.Statement.{statement}

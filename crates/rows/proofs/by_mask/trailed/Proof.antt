@@ -1,6 +1,6 @@
 -- The invariant: the rows before y are copied. The measure: the rows left.
-use mathlib.Core.Path.{_≡_, refl, sym, ap, subst}
-use Prim.Native.Nat.{ℕ, _≤_, _+_, _-_}
+use mathlib.Core.Path.{_≡_, refl, subst}
+use Prim.Native.Nat.{ℕ, _≤_, _-_}
 use lib.ListN.{getD, length, length-set}
 use Rattle.rows.proofs.Fill.{Filled, fill-none, fill-more}
 use Rattle.rows.proofs.Known.{rows16}

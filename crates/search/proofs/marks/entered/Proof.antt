@@ -1,5 +1,4 @@
 -- A marked mask is a stage, so that the numbers of its rows are its own.
-use native.Mathlib.Omega.{arith}
 use mathlib.Core.Path.{refl}
 use lib.Dec.{eqb→eq}
 use denote.Ref.{now}

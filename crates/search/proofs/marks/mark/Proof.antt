@@ -5,7 +5,6 @@ use lib.Dec.{T}
 use Rattle.masks.specs.Mask.{stage}
 use Rattle.rows.proofs.Known.{rows16}
 use Rattle.search.proofs.Marking.{mark-none, mark-one, opens}
-use native.Mathlib.Omega.{arith}
 use borrow.Author.Needs.{needs}
 use Rattle.search.proofs.marks.mark.Statement.{statement}
 use Rattle.search.proofs.marks.mark.Tie as tie
