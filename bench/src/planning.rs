@@ -28,29 +28,37 @@ struct Effort {
     nodes: u64,
     tests: u64,
     gave_up: bool,
+    /// Of this one run; library and port are timed apart.
+    seconds: f64,
 }
 
 /// The plain search of a shape list.
 fn before(shape: &[u32]) -> Effort {
+    let start = Instant::now();
     let mut search = Search::new(&fast::rows_of(shape), PLAIN_LIMIT);
     let gave_up = search.run() == End::GaveUp;
+    let seconds = start.elapsed().as_secs_f64();
     let (nodes, tests) = (search.nodes, search.tests);
     Effort {
         nodes,
         tests,
         gave_up,
+        seconds,
     }
 }
 
 /// The quick one.
 fn after(shape: &[u32]) -> Effort {
+    let start = Instant::now();
     let mut search = Quick::new(&fast::rows_of(shape), QUICK_LIMIT);
     let gave_up = search.run() == End::GaveUp;
+    let seconds = start.elapsed().as_secs_f64();
     let (nodes, tests) = (search.nodes, search.tests);
     Effort {
         nodes,
         tests,
         gave_up,
+        seconds,
     }
 }
 

@@ -38,8 +38,8 @@ fn given_up(efforts: &[Effort]) -> usize {
     efforts.iter().filter(|effort| effort.gave_up).count()
 }
 
-/// One row of the table of counts; what the quick search took is answered.
-fn print_counts(family: &Family) -> Vec<Effort> {
+/// One row of the table of counts; what the plain and the quick search took is answered.
+fn print_counts(family: &Family) -> [Vec<Effort>; 2] {
     let plain: Vec<Effort> = family.shapes.iter().map(|shape| before(shape)).collect();
     let quick: Vec<Effort> = family.shapes.iter().map(|shape| after(shape)).collect();
     println!(
@@ -53,12 +53,12 @@ fn print_counts(family: &Family) -> Vec<Effort> {
         counts(&quick, |effort| effort.nodes),
         counts(&quick, |effort| effort.tests),
     );
-    quick
+    [plain, quick]
 }
 
 /// One row of the table of times.
-fn print_times(family: &Family, efforts: &[Effort]) -> Option<Times> {
-    let pairs = family.shapes.iter().zip(efforts);
+fn print_times(family: &Family, [plain, quick]: &[Vec<Effort>; 2]) -> Option<Times> {
+    let pairs = family.shapes.iter().zip(quick);
     let finished = pairs.filter(|(_, effort)| !effort.gave_up);
     let measured = finished.map(|(shape, effort)| {
         assert_agreement(shape);
@@ -71,10 +71,12 @@ fn print_times(family: &Family, efforts: &[Effort]) -> Option<Times> {
     }
     let times = Times { name, each };
     let (library, port, sums) = (times.spread(0), times.spread(1), totals(&times.each));
+    let once = spread(plain.iter().map(|effort| effort.seconds).collect());
     let micros = |time: f64| format!("{:>9.0}", time * 1e6);
     println!(
-        "{:<24}{}{}{:>9.2}{:>9.2}",
+        "{:<24}{}{}{}{:>9.2}{:>9.2}",
         times.name,
+        once.map(micros).concat(),
         library.map(micros).concat(),
         port.map(micros).concat(),
         library[0] / port[0],
@@ -94,15 +96,15 @@ pub fn run() -> Vec<Times> {
         "{:<24}{:>7}{:>7}{:>6}{:^21}{:^21}{:^21}{:^21}",
         "family", "shapes", "plain", "quick", "nodes", "tests", "nodes", "tests"
     );
-    let efforts: Vec<Vec<Effort>> = families.iter().map(print_counts).collect();
+    let efforts: Vec<[Vec<Effort>; 2]> = families.iter().map(print_counts).collect();
     println!();
     println!(
-        "{:<24}{:^27}{:^27}{:^18}",
-        "", "library, us", "port, us", "library over port"
+        "{:<24}{:^27}{:^27}{:^27}{:^18}",
+        "", "plain, us", "library, us", "port, us", "library over port"
     );
     println!(
-        "{:<24}{:27}{:27}{:>9}{:>9}",
-        "family", "", "", "medians", "totals"
+        "{:<24}{:27}{:27}{:27}{:>9}{:>9}",
+        "family", "", "", "", "medians", "totals"
     );
     let pairs = families.iter().zip(&efforts);
     let times: Vec<Times> = pairs.filter_map(|(f, e)| print_times(f, e)).collect();

@@ -41,10 +41,6 @@ pub fn print(families: &[Times], hard: &Hard) {
     line("library over port at most 1.5, by totals", found, met);
 
     let medians = |family: &Times| [family.spread(0)[0], family.spread(1)[0]];
-    let of_medians = greatest(families.iter().map(|family| ratio(medians(family))));
-    let found = format!("{of_medians:.2} at the worst family");
-    line("and by each family's medians", found, of_medians <= RATIO);
-
     let median = greatest(families.iter().map(|family| medians(family)[0]));
     let found = format!("{:.0} us at the worst family", median * 1e6);
     line("family medians under 100 us", found, median < MEDIAN);
@@ -52,4 +48,8 @@ pub fn print(families: &[Times], hard: &Hard) {
     let worst = greatest(families.iter().map(|family| family.spread(0)[2]));
     let found = format!("{worst:.3} s");
     line("no shape of a family over 0.5 s", found, worst < WORST);
+
+    let of_medians = greatest(families.iter().map(|family| ratio(medians(family))));
+    let of_rows = greatest(hard.times.iter().map(|&pair| ratio(pair)));
+    println!("library over port at most: {of_medians:.2} by a family's medians, {of_rows:.2} on one hard row");
 }
