@@ -76,8 +76,8 @@ fn carried(a: [u16; 16], path: [u16; 32], len: usize) -> [u16; 16]
     z
 }
 
-// Whether the target is the sum of the cells of t, the mask m and the masks of the path. Where t and m make up the rest that m left t of, they do so as the
-// rest did, and the sum is not made again.
+// Whether the target is the sum of the cells of t, the mask m and the masks of the path. Where t and m make up the rest again, which m left t of, the target
+// is made up as it was above, and the sum is not made again.
 fn covers(
     target: [u16; 16],
     rest: [u16; 16],
