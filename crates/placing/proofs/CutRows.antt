@@ -3,7 +3,7 @@ use mathlib.Core.Path.{_≡_, refl, sym, ap, ap₂, _∙_, subst}
 use mathlib.Core.Logic.{⊎-elim}
 use mathlib.Core.List.{List}
 use Prim.Native.Nat.{ℕ, suc, _+_, _-_, _*_, _<_, _≤_, zero-le}
-use native.Mathlib.Nat.{add-mul, mul-comm, le-trans, le-of-lt, lt-of-lt-of-le}
+use native.Mathlib.Nat.{add-mul, mul-comm, mul-le-mul-right, le-trans, le-of-lt, lt-of-lt-of-le}
 use native.Mathlib.Omega.{arith}
 use lib.IntN.{ℤ, pos, negℤ, _-ℤ_, +ℤ-assoc}
 use lib.ListN.{length, getD}
@@ -40,7 +40,7 @@ module _ {n a m e : ℕ} (q : Edge n a m e) where
   edge-before : (k : ℕ) → k < e → k + a < m
   edge-before k l = let u = q .last (omega arith) in omega arith
 
-  edge-after : (k : ℕ) → e ≤ k → k < n → m ≤ k + a
+  pub edge-after : (k : ℕ) → e ≤ k → k < n → m ≤ k + a
   edge-after k l u = ⊎-elim (λ (h : e < n). let v = q .next h in omega arith) (λ (h : n ≤ e). absurd (omega arith)) (lt-or-le e n)
 
 -- where two edges leave cells between them, the first of these is in the row, and so is the last
@@ -141,6 +141,21 @@ module _ {F : ℕ → ℕ → ℕ} {w : ℕ} where
         subst (λ (n : ℕ). getD d'' (n * w + x) 0 ≡ F x n) (sym q) (s .at (r * w + x) (omega arith) (omega arith) ∙ ap (λ (n : ℕ). F n r) i))
         (lt-or-le y r);
     past = λ k l. let a = add-mul r 1 w in s .above k (omega (arith, mul-comm w (r + 1))) ∙ t .past k (omega (arith, mul-comm w (r + 1), mul-comm w r));
+  }
+
+  -- the rows from r on, where v is what each has
+  pub laid-rest : {v r h p e : ℕ} {d d' d'' : List ℕ} → r ≤ h → p ≡ r * w → e ≡ h * w → Laid F w r d d' → Ranged 0 p e (λ _. v) d' d''
+      → ((x y : ℕ) → r ≤ y → y < h → F x y ≡ v) → Laid F w h d d''
+  laid-rest {v} {r} {h} {p} {e} {d} {d'} {d''} le ep ee t s f = record {
+    len = s .len ∙ t .len;
+    at = λ x y lx ly. ⊎-elim
+        (λ (u : y < r). let a = rows-apart w y r u in s .below (y * w + x) (omega arith) ∙ t .at x y lx u)
+        (λ (u : r ≤ y).
+        let a = rows-apart w y h ly in
+        let b = mul-le-mul-right {m = r} {n = y} w u in
+        s .at (y * w + x) (omega arith) (omega arith) ∙ sym (f x y u ly))
+        (lt-or-le y r);
+    past = λ k l. let b = mul-le-mul-right {m = r} {n = h} w le in s .above k (omega (arith, mul-comm w h)) ∙ t .past k (omega (arith, mul-comm w h, mul-comm w r));
   }
 
 -- and as a list

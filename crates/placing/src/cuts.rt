@@ -3,7 +3,7 @@ use super::sizes;
 ghost use mathlib.Core.Path.{_≡_};
 ghost use Prim.Native.Nat.{_+_, _*_, _≤_};
 ghost use lib.ListN.{length};
-ghost use Rattle.runs.specs.Runs.{over, Ranged};
+ghost use Rattle.runs.specs.Runs.{over, Laid, Ranged};
 ghost use Rattle.placing.specs.Placing.{cutOut, Cut, Edge, shifted, seen};
 
 // How many of the first w cells stand before n when a is added to their numbers.
@@ -54,7 +54,32 @@ fn across(src: &[u8], d: &mut [u8], v: usize, u: usize, a: usize, t: usize, outs
     line(&src[q..q + v], d, a, outside);
 }
 
-// All rows, the first first.
+// The first h rows, the first first.
+fn upper(
+    src: &[u8],
+    dst: &mut [u8],
+    w: usize,
+    h: usize,
+    v: usize,
+    u: usize,
+    a: usize,
+    b: usize,
+    outside: u8,
+)
+    requires { ⌜ (v * u ≤ length (now src)) × (w * h ≤ length (now dst)) × (w ≤ 65535) × (h ≤ 65535) × (v ≤ 65535) × (u ≤ 65535) × (a ≤ 65535) × (b ≤ 65535) ⌝ }
+    ensures { λ _. ⌜ Laid (λ x y. seen outside v u (now (src .entry)) (x + a) (y + b)) w h (now (dst .entry)) (now (dst .exit)) ⌝ }
+{
+    let mut p: usize = 0;
+    let mut y: usize = 0;
+    while y < h {
+        across(src, &mut dst[p..p + w], v, u, a, y + b, outside);
+        p += w;
+        y += 1;
+    }
+}
+
+// All rows: one by one as far as the source goes, and those below it in one run. A loop over all of them would look, to the compiler, as if it read past the
+// source, and where the image stands there, cells would be copied one at a time.
 fn down(
     src: &[u8],
     dst: &mut [u8],
@@ -69,13 +94,9 @@ fn down(
     requires { ⌜ (v * u ≤ length (now src)) × (w * h ≤ length (now dst)) × (w ≤ 65535) × (h ≤ 65535) × (v ≤ 65535) × (u ≤ 65535) × (a ≤ 65535) × (b ≤ 65535) ⌝ }
     ensures { λ _. ⌜ now (dst .exit) ≡ over (w * h) (cutOut outside w h v u a b (now (src .entry))) (now (dst .entry)) ⌝ }
 {
-    let mut p: usize = 0;
-    let mut y: usize = 0;
-    while y < h {
-        across(src, &mut dst[p..p + w], v, u, a, y + b, outside);
-        p += w;
-        y += 1;
-    }
+    let n = edge(h, b, u + 15);
+    upper(src, dst, w, n, v, u, a, b, outside);
+    runs::fill(&mut dst[n * w..h * w], outside);
 }
 
 // Cuts w columns and h rows out of the v columns and u rows in src, into dst: cell (x, y) becomes the source's (x + a − 15, y + b − 15), and outside where

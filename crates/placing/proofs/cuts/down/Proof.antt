@@ -1,86 +1,81 @@
--- The rows passed are cut; the measure is what is left of the rows.
+-- The rows as far as the source goes, and below it the value outside.
 use borrow.Author.Needs.{needs}
 use native.Mathlib.Omega.{arith}
-use mathlib.Core.Path.{_≡_}
-use Prim.Native.Nat.{_+_, _-_, _*_, _≤_}
-use native.Mathlib.Nat.{add-mul, mul-comm}
-use Rattle.runs.specs.Runs.{Laid}
+use mathlib.Core.Path.{refl}
+use Prim.Native.Nat.{_+_, _*_, _≤_}
+use native.Mathlib.Nat.{mul-comm, mul-le-mul-right}
 use Rattle.runs.proofs.Ranges.{ranged-part}
-use Rattle.runs.proofs.FlatRows.{rows-apart}
-use Rattle.placing.specs.Placing.{seen}
-use Rattle.placing.proofs.CutRows.{laid-none, laid-more, cut-is}
+use Rattle.placing.proofs.CutRows.{edge-after, seen-under, laid-rest, cut-is}
 use Rattle.placing.proofs.cuts.down.Statement.{statement}
 use Rattle.placing.proofs.cuts.down.Tie as tie
 
-abbrev Inv-loop : tie.InvT-loop
-Inv-loop src dst₀ w h v u a b outside p₀ y₀ dst p y = (y ≤ h) × (p ≡ y * w) × Laid (λ x z. seen outside v u src (x + a) (z + b)) w y dst₀ dst
+add-edge : tie.Need-add-edge
+add-edge c = search needs
 
-abbrev μ-loop : tie.MeasureT-loop
-μ-loop src dst₀ w h v u a b outside p₀ y₀ dst p y = h - y
+edge-requires : tie.Need-edge-requires
+edge-requires c κs = search needs
 
-loop-holds : tie.Need-loop-holds Inv-loop μ-loop
-loop-holds c = (omega arith, omega arith, laid-none _)
+upper-requires : tie.Need-upper-requires
+upper-requires c κs =
+    let a = c .before .before .before .before .args in
+    let n = c .before .edge in
+    let l = n .ensures .all in
+    omega (arith, mul-le-mul-right {m = n .result} {n = a .h} (a .w) l, mul-comm (a .w) (a .h), mul-comm (a .w) (n .result))
 
-add-across : tie.Need-add-across Inv-loop μ-loop
-add-across c = let a = c .before .before .before .before .args in let l = c .before .loop in omega (arith, rows-apart (a .w) (l .y) (a .h) (omega arith), mul-comm (a .w) (a .h), l .inv .2 .len)
+mul-fill : tie.Need-mul-fill
+mul-fill c =
+    let a = c .before .before .before .before .before .before .before .args in
+    let n = c .before .before .before .before .edge in
+    let l = n .ensures .all in
+    omega (arith, mul-le-mul-right {m = n .result} {n = a .h} (a .w) l, mul-comm (a .w) (a .h))
 
-sub-across : tie.Need-sub-across Inv-loop μ-loop
-sub-across c = search needs
+mul-fill-2 : tie.Need-mul-fill-2
+mul-fill-2 c = search needs
 
-part-across-start : tie.Need-part-across-start Inv-loop μ-loop
-part-across-start c = search needs
+sub-fill : tie.Need-sub-fill
+sub-fill c =
+    let a = c .before .before .before .before .before .before .before .args in
+    let n = c .before .before .before .before .edge in
+    mul-le-mul-right {m = n .result} {n = a .h} (a .w) (n .ensures .all)
 
-part-across-end : tie.Need-part-across-end Inv-loop μ-loop
-part-across-end c = let a = c .before .before .before .before .args in let l = c .before .loop in omega (arith, rows-apart (a .w) (l .y) (a .h) (omega arith), mul-comm (a .w) (a .h), l .inv .2 .len)
+part-fill-start : tie.Need-part-fill-start
+part-fill-start c =
+    let a = c .before .before .before .before .before .before .before .args in
+    let n = c .before .before .before .before .edge in
+    mul-le-mul-right {m = n .result} {n = a .h} (a .w) (n .ensures .all)
 
-add-across-2 : tie.Need-add-across-2 Inv-loop μ-loop
-add-across-2 c = search needs
+part-fill-end : tie.Need-part-fill-end
+part-fill-end c = search needs
 
-across-requires : tie.Need-across-requires Inv-loop μ-loop
-across-requires c κs = search needs
+fill-requires : tie.Need-fill-requires
+fill-requires c κs = search needs
 
-add-p : tie.Need-add-p Inv-loop μ-loop
-add-p c = let a = c .before .before .before .before .before .before .before .before .args in let l = c .before .before .before .before .before .loop in omega (arith, rows-apart (a .w) (l .y) (a .h) (omega arith), mul-comm (a .w) (a .h), l .inv .2 .len)
-
-add-y : tie.Need-add-y Inv-loop μ-loop
-add-y c = search needs
-
-loop-less : tie.Need-loop-less Inv-loop μ-loop
-loop-less c = search needs
-
-loop-again : tie.Need-loop-again Inv-loop μ-loop
-loop-again c =
-    let a = c .before .before .before .before .before .before .before .before .args in
-    let l = c .before .before .before .before .before .loop in
-    let room = rows-apart (a .w) (l .y) (a .h) (omega arith) in
-    let r = ranged-part {a = l .p} {e = l .p + a .w} {xs = l .dst} (omega arith) (omega (arith, room, mul-comm (a .w) (a .h), l .inv .2 .len)) (c .before .before .across .ensures) in
-    (omega arith, omega (arith, add-mul (l .y) 1 (a .w)), laid-more (l .inv .1) (l .inv .2) r)
-
-same-length : tie.Need-same-length Inv-loop μ-loop
+same-length : tie.Need-same-length
 same-length c = search needs
 
-returns : tie.Need-returns Inv-loop μ-loop
+returns : tie.Need-returns
 returns c =
-    let a = c .before .before .before .before .args in
-    let e : c .before .loop .y ≡ a .h = omega arith in
-    cut-is (a .outside) (a .w) (a .h) (a .v) (a .u) (a .a) (a .b) (a .src .now) (omega arith) (rw e at (c .before .loop .inv .2))
+    let a = c .before .before .before .before .before .before .before .before .before .before .before .args in
+    let n = c .before .before .before .before .before .before .before .before .edge in
+    let u = c .before .before .before .before .before .before .upper .ensures in
+    let l = n .ensures .all in
+    let e = mul-le-mul-right {m = n .result} {n = a .h} (a .w) l in
+    let r = ranged-part {a = n .result * a .w} {e = a .h * a .w} e (omega (arith, mul-comm (a .w) (a .h), u .len)) (c .before .before .fill .ensures) in
+    cut-is (a .outside) (a .w) (a .h) (a .v) (a .u) (a .a) (a .b) (a .src .now) (omega arith)
+    (laid-rest l refl refl u r (λ x y lo hi. let k = edge-after (n .ensures) y lo hi in seen-under (a .outside) (a .v) (a .u) (a .src .now) (x + a .a) (y + a .b) (omega arith) (omega arith)))
 
 pub down-spec : {M : Type 1} → statement M
 down-spec =
     tie.close
     (tie.spec
-    Inv-loop
-    μ-loop
-    loop-holds
-    add-across
-    sub-across
-    part-across-start
-    part-across-end
-    add-across-2
-    across-requires
-    add-p
-    add-y
-    loop-less
-    loop-again
+    add-edge
+    edge-requires
+    upper-requires
+    mul-fill
+    mul-fill-2
+    sub-fill
+    part-fill-start
+    part-fill-end
+    fill-requires
     same-length
     returns)
