@@ -8,10 +8,9 @@ use lib.ListN.{getD, take}
 use Rattle.plane.specs.Lists.{all}
 use Rattle.masks.specs.Chain.{sumOf}
 use Rattle.masks.specs.Mask.{stage}
-use Rattle.grids.specs.Frame.{free, frame}
+use Rattle.grids.specs.Frame.{free, frame, over}
 use Rattle.grids.specs.Grid.{grid, put, once}
 use Rattle.grids.proofs.Putting.{frame-binary, frame-within, put-whole}
-use Rattle.grids.proofs.Stage.{over}
 use Rattle.cleaning.specs.Operation.{through}
 use Rattle.cleaning.proofs.Turn.{turn}
 use Rattle.cleaning.proofs.Within.{Small, kept, first-stages, small-part}

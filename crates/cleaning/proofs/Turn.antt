@@ -19,13 +19,13 @@ use Rattle.plane.proofs.Algebra.{+ᵖ-origin, subᵖ-cancel, ≐-refl, ≐-sym,
 use Rattle.masks.specs.Chain.{sums, sumOf}
 use Rattle.masks.specs.Mask.{maskPoints, stage}
 use Rattle.masks.proofs.Sum.{sums-is}
-use Rattle.grids.specs.Frame.{free, full, greater, lesser, frame, occupied}
+use Rattle.grids.specs.Frame.{free, full, greater, lesser, frame, occupied, over}
 use Rattle.grids.specs.Grid.{grid, laid, put, once}
 use Rattle.grids.specs.Image.{cells}
 use Rattle.grids.proofs.Fold.{dilated-same, dilated-sums, eroded-same, eroded-sums}
 use Rattle.grids.proofs.Pictures.{Within, view-within, getD-cells, length-cells}
 use Rattle.grids.proofs.Putting.{frame-binary, frame-within, put-whole}
-use Rattle.grids.proofs.Stage.{greater-laws, lesser-laws, over, Binary, over-binary, D-set, E-set, once-is}
+use Rattle.grids.proofs.Stage.{greater-laws, lesser-laws, Binary, over-binary, D-set, E-set, once-is}
 use Rattle.cleaning.specs.Operation.{made, Says, Direct, asRead, through, lastGrid, readAt, inTurn}
 use Rattle.cleaning.proofs.Within.{Small, Kept, kept, dilation-within, erosion-within, erosion-kept}
 

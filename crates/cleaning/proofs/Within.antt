@@ -19,7 +19,8 @@ use Rattle.masks.specs.Mask.{maskCells, stage}
 use Rattle.masks.proofs.Cells.{pair, addCell, sumCells, In-sums, sum-cells, Low, sum-low}
 use Rattle.grids.proofs.Pictures.{inside, Within, inside-add, inside-both}
 use Rattle.grids.proofs.Putting.{within-more}
-use Rattle.grids.proofs.Stage.{over, greatest-zero, least-zero}
+use Rattle.grids.specs.Frame.{over}
+use Rattle.grids.proofs.Stage.{greatest-zero, least-zero}
 
 -- ---- one list of cells
 

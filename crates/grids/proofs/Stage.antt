@@ -18,7 +18,7 @@ use Rattle.plane.proofs.Algebra.{+ᵖ-cancel, subᵖ-cancel}
 use Rattle.plane.proofs.Member.{In-map, In-flat, any-no}
 use Rattle.plane.proofs.Tests.{T-and, not-or, not-ltb, cond-ind}
 use Rattle.masks.specs.Mask.{maskPoints, Mask}
-use Rattle.grids.specs.Frame.{free, full, greater, lesser, occupied, badCell, gridSize}
+use Rattle.grids.specs.Frame.{free, full, greater, lesser, over, occupied, badCell, gridSize}
 use Rattle.grids.specs.Grid.{grid, laid, once}
 use Rattle.grids.specs.Image.{valueAt, view, cells, fold, dilated, eroded}
 use Rattle.grids.proofs.Fold.{Semilattice, absorb}
@@ -29,11 +29,6 @@ greater-laws = record { assoc = λ a b c. omega arith; comm = λ a b. omega arit
 
 pub lesser-laws : Semilattice lesser
 lesser-laws = record { assoc = λ a b c. omega arith; comm = λ a b. omega arith; idem = λ a. omega arith }
-
--- a picture taken through a list of points, by erosion or by dilation
-abbrev pub over : Bool → List Point → (Point → ℕ) → Point → ℕ
-over true P f = eroded lesser full P f
-over false P f = dilated greater free P f
 
 -- ---- values
 
@@ -122,8 +117,16 @@ cells-binary W H f b = any-no (ltb full) (cells W H f) (λ a h.
 
 pub once-is : (erode : Bool) (v W H m : ℕ) (g : List ℕ) → once erode v W H m g ≡ laid W H (over erode (maskPoints m) (grid v W H g))
 unfolding once
-once-is true v W H m g = refl
-once-is false v W H m g = refl
+once-is erode v W H m g = refl
+
+-- by its kind: the least of the cells p + a, with 1 for none, or the greatest of the cells p − a, with 0 for none
+pub once-eroded : (v W H m : ℕ) (g : List ℕ) → once true v W H m g ≡ laid W H (eroded lesser full (maskPoints m) (grid v W H g))
+unfolding once
+once-eroded v W H m g = refl
+
+pub once-dilated : (v W H m : ℕ) (g : List ℕ) → once false v W H m g ≡ laid W H (dilated greater free (maskPoints m) (grid v W H g))
+unfolding once
+once-dilated v W H m g = refl
 
 pub once-size : (erode : Bool) (v W H m : ℕ) (g : List ℕ) → length (once erode v W H m g) ≡ gridSize W H
 once-size erode v W H m g =

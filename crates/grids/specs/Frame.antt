@@ -1,6 +1,6 @@
 -- Document 01, "Frames": the values of cells, frames, grounds 11 to 14, and the load.
 use mathlib.Core.Path.{_≡_}
-use mathlib.Core.Bool.{Bool, not, _||_}
+use mathlib.Core.Bool.{Bool, true, false, not, _||_}
 use mathlib.Core.List.{List, [], _∷_}
 use Prim.Native.Nat.{ℕ, _+_, _*_, min, max}
 use lib.Dec.{ltb, eqb}
@@ -9,7 +9,7 @@ use Rattle.plane.specs.Lists.{any, keep}
 use Rattle.plane.specs.Point.{Point, PointSet}
 use Rattle.words.specs.Ground.{Test, stated, result, Answered}
 use Rattle.words.specs.declared.Answer.{Answer}
-use Rattle.grids.specs.Image.{view}
+use Rattle.grids.specs.Image.{view, taken}
 
 -- one byte a cell: 0 free, 1 occupied; free is the least value and full the greatest
 abbrev pub free : ℕ
@@ -28,6 +28,19 @@ greater = max
 
 abbrev pub lesser : ℕ → ℕ → ℕ
 lesser = min
+
+-- the lesser of two values for erosion, the greater for dilation, and what each begins with
+abbrev pub pickOf : Bool → ℕ → ℕ → ℕ
+pickOf true = lesser
+pickOf false = greater
+
+abbrev pub seedOf : Bool → ℕ
+seedOf true = full
+seedOf false = free
+
+-- a picture of cells taken through a list of points, by erosion or by dilation
+abbrev pub over : Bool → List Point → (Point → ℕ) → Point → ℕ
+over erode P f = taken erode (pickOf erode) (seedOf erode) P f
 
 -- W columns and H rows of cells on the plane, row 0 first, with the value v outside
 abbrev pub frame : ℕ → ℕ → ℕ → List ℕ → Point → ℕ

@@ -1,6 +1,6 @@
 -- Document 01, "Frames": grids, putting a frame into one, and the single stage by dilation or erosion.
 use mathlib.Core.Path.{_≡_}
-use mathlib.Core.Bool.{Bool, true, false, not, _||_}
+use mathlib.Core.Bool.{Bool, not, _||_}
 use mathlib.Core.List.{List, [], _∷_, _++_}
 use Prim.Native.Nat.{ℕ, _+_}
 use lib.ListN.{take, drop}
@@ -9,8 +9,8 @@ use Rattle.words.specs.Ground.{Test, stated, result, Answered}
 use Rattle.words.specs.Word.{wrongKind, extraBit, stageKind, stageMask}
 use Rattle.words.specs.declared.Answer.{Answer}
 use Rattle.masks.specs.Mask.{maskPoints, stage}
-use Rattle.grids.specs.Image.{view, cells, dilated, eroded}
-use Rattle.grids.specs.Frame.{free, full, greater, lesser, frame, badSize, badCell, shortImage, gridSize, frameTests}
+use Rattle.grids.specs.Image.{view, cells}
+use Rattle.grids.specs.Frame.{free, over, frame, badSize, badCell, shortImage, gridSize, frameTests}
 
 -- a grid is the first (W + 15) × (H + 15) bytes of a work image, row by row, x and y from 0; v is the value of plane cells outside it
 abbrev pub grid : ℕ → ℕ → ℕ → List ℕ → Point → ℕ
@@ -26,8 +26,7 @@ put W H f = laid W H (frame free W H f)
 
 -- a grid taken through the single stage of the mask m, by erosion or by dilation, cut to the grid
 unfoldable pub once : Bool → ℕ → ℕ → ℕ → ℕ → List ℕ → List ℕ
-once true v W H m g = laid W H (eroded lesser full (maskPoints m) (grid v W H g))
-once false v W H m g = laid W H (dilated greater free (maskPoints m) (grid v W H g))
+once erode v W H m g = laid W H (over erode (maskPoints m) (grid v W H g))
 
 -- an image whose grid is written: bytes past the grid are unchanged
 abbrev pub written : ℕ → ℕ → List ℕ → List ℕ → List ℕ

@@ -1,6 +1,6 @@
 -- Pictures: a value at each point of the plane. Rows of cells read as a picture and back, and dilation and erosion of a picture by a list of points,
 -- with the greater and the lesser of two values given. The values may be of any type.
-use mathlib.Core.Bool.{cond, _&&_}
+use mathlib.Core.Bool.{Bool, true, false, cond, _&&_}
 use mathlib.Core.List.{List, [], _∷_, map}
 use Prim.Native.Nat.{ℕ, _+_, _*_}
 use lib.Dec.{ltb}
@@ -35,3 +35,8 @@ module _ {A : Type 0} where
   -- the cells covered at p are p + a for erosion, and the least value of them is taken
   abbrev pub eroded : (A → A → A) → A → List Point → (Point → A) → Point → A
   eroded lesser greatest P f p = fold lesser greatest (map (λ a. f (p +ᵖ a)) P)
+
+  -- a picture taken through a list of points, by erosion or by dilation, with the pick of two values and the seed that the kind has
+  abbrev pub taken : Bool → (A → A → A) → A → List Point → (Point → A) → Point → A
+  taken true pick e P f = eroded pick e P f
+  taken false pick e P f = dilated pick e P f

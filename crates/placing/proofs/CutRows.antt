@@ -20,20 +20,20 @@ use Rattle.runs.proofs.Whole.{laid-is}
 use Rattle.runs.proofs.Values.{value-in, value-right, value-under, value-left, value-above}
 use Rattle.placing.specs.Placing.{cutOut, Edge, shifted, seen}
 
--- ---- a row of the source, and the cells beside it
+-- ---- a row of cells, and the cells beside it. What gives the cells may be any: the bytes of a row, or one bit of each.
 
-module _ (v : ℕ) (row : List ℕ) (s : ℕ) where
-  shifted-left : s < 15 → shifted v row s ≡ v
+module _ (v n : ℕ) (c : ℕ → ℕ) (s : ℕ) where
+  shifted-left : s < 15 → shifted v n c s ≡ v
   unfolding shifted
   shifted-left h = rw (lt-leb 15 s h)
 
-  shifted-right : length row + 15 ≤ s → shifted v row s ≡ v
+  shifted-right : n + 15 ≤ s → shifted v n c s ≡ v
   unfolding shifted
-  shifted-right h = rw (le-leb 15 s (omega arith), le-ltb (s - 15) (length row) (omega arith))
+  shifted-right h = rw (le-leb 15 s (omega arith), le-ltb (s - 15) n (omega arith))
 
-  shifted-in : 15 ≤ s → s < length row + 15 → shifted v row s ≡ getD row (s - 15) 0
+  shifted-in : 15 ≤ s → s < n + 15 → shifted v n c s ≡ c (s - 15)
   unfolding shifted
-  shifted-in h k = rw (le-leb 15 s h, lt-ltb (s - 15) (length row) (omega arith))
+  shifted-in h k = rw (le-leb 15 s h, lt-ltb (s - 15) n (omega arith))
 
 -- the cells on either side of an edge
 module _ {n a m e : ℕ} (q : Edge n a m e) where
@@ -51,27 +51,27 @@ between hp he l = (let u = he .all in hp .next (omega arith), he .last (omega ar
 part-index : (p a k : ℕ) → 15 ≤ p + a → p ≤ k → p + a - 15 + (k - p) ≡ k + a - 15
 part-index p a k lo l = omega arith
 
-module _ (v : ℕ) (row : List ℕ) {n a p e : ℕ} (hp : Edge n a 15 p) (he : Edge n a (length row + 15) e) where
-  -- a row of cells: v up to p, the source's row up to e, and v to the end
+module _ (v m : ℕ) (c : ℕ → ℕ) {n a p e : ℕ} (hp : Edge n a 15 p) (he : Edge n a (m + 15) e) where
+  -- a row of cells: v up to p, the row's cells up to e, and v to the end
   pub line-is : {d d₁ d₂ d₃ : List ℕ} → p < e
-      → Ranged 0 0 p (λ _. v) d d₁ → Ranged 0 p e (λ k. getD row (p + a - 15 + (k - p)) 0) d₁ d₂ → Ranged 0 e n (λ _. v) d₂ d₃
-      → Ranged 0 0 n (λ x. shifted v row (x + a)) d d₃
+      → Ranged 0 0 p (λ _. v) d d₁ → Ranged 0 p e (λ k. c (p + a - 15 + (k - p))) d₁ d₂ → Ranged 0 e n (λ _. v) d₂ d₃
+      → Ranged 0 0 n (λ x. shifted v m c (x + a)) d d₃
   line-is l r₁ r₂ r₃ =
       ranged-join
       (ranged-join
-      (ranged-ap r₁ (λ k lo hi. sym (shifted-left v row (k + a) (edge-before hp k hi))))
+      (ranged-ap r₁ (λ k lo hi. sym (shifted-left v m c (k + a) (edge-before hp k hi))))
       (ranged-ap r₂ (λ k lo hi.
-      ap (λ (j : ℕ). getD row j 0) (part-index p a k (between hp he l .0) lo)
-      ∙ sym (shifted-in v row (k + a) (edge-after hp k lo (lt-of-lt-of-le hi (he .all))) (edge-before he k hi))))
+      ap c (part-index p a k (between hp he l .0) lo)
+      ∙ sym (shifted-in v m c (k + a) (edge-after hp k lo (lt-of-lt-of-le hi (he .all))) (edge-before he k hi))))
       zero-le (le-of-lt l))
-      (ranged-ap r₃ (λ k lo hi. sym (shifted-right v row (k + a) (edge-after he k lo hi))))
+      (ranged-ap r₃ (λ k lo hi. sym (shifted-right v m c (k + a) (edge-after he k lo hi))))
       zero-le (he .all)
 
   -- where the edges leave nothing between them, no cell of the row is seen
-  pub none-seen : (k : ℕ) → e ≤ p → k < n → shifted v row (k + a) ≡ v
+  pub none-seen : (k : ℕ) → e ≤ p → k < n → shifted v m c (k + a) ≡ v
   none-seen k l u = ⊎-elim
-      (λ (h : k < p). shifted-left v row (k + a) (edge-before hp k h))
-      (λ (h : p ≤ k). shifted-right v row (k + a) (edge-after he k (le-trans l h) u))
+      (λ (h : k < p). shifted-left v m c (k + a) (edge-before hp k h))
+      (λ (h : p ≤ k). shifted-right v m c (k + a) (edge-after he k (le-trans l h) u))
       (lt-or-le k p)
 
 -- ---- the source, and the cells outside it
@@ -103,23 +103,13 @@ module _ (v C R : ℕ) (g : List ℕ) (s t : ℕ) where
       (lt-or-le (s - 15) C))
       (lt-or-le s 15)
 
-  -- a row of the source, lent, is what is seen at its height
-  pub seen-line : (q : ℕ) → q ≡ (t - 15) * C → C * R ≤ length g → 15 ≤ t → t - 15 < R → shifted v (midOf q (q + C - q) g) s ≡ seen v C R g s t
-  seen-line q e fits k l =
-      let room : (t - 15) * C + C ≤ C * R = omega (arith, rows-apart C (t - 15) R l, mul-comm C R) in
-      let n : length (midOf q (q + C - q) g) ≡ q + C - q = mid-len q (q + C) g (omega arith) in
-      ⊎-elim
-      (λ (h : s < 15). shifted-left v (midOf q (q + C - q) g) s h ∙ sym (seen-left h))
+  -- a row whose cells are the source's at its height is what is seen there
+  pub seen-line : (c : ℕ → ℕ) → C * R ≤ length g → 15 ≤ t → t - 15 < R → ((i : ℕ) → i < C → c i ≡ getD g ((t - 15) * C + i) 0) → shifted v C c s ≡ seen v C R g s t
+  seen-line c fits k l same = ⊎-elim
+      (λ (h : s < 15). shifted-left v C c s h ∙ sym (seen-left h))
       (λ (h : 15 ≤ s). ⊎-elim
-      (λ (i : s - 15 < C).
-      let at : q + (s - 15) ≡ (t - 15) * C + (s - 15) = omega arith in
-      shifted-in v (midOf q (q + C - q) g) s h (omega arith)
-      ∙ getD-mid 0 q (q + C - q) g (s - 15) (omega arith)
-      ∙ ap (λ (j : ℕ). getD g j 0) at
-      ∙ sym (below-of h k ∙ value-in v g C R fits (s - 15) (t - 15) i l))
-      (λ (i : C ≤ s - 15).
-      shifted-right v (midOf q (q + C - q) g) s (omega arith)
-      ∙ sym (below-of h k ∙ value-right v g C R (s - 15) (t - 15) i))
+      (λ (i : s - 15 < C). shifted-in v C c s h (omega arith) ∙ same (s - 15) i ∙ sym (below-of h k ∙ value-in v g C R fits (s - 15) (t - 15) i l))
+      (λ (i : C ≤ s - 15). shifted-right v C c s (omega arith) ∙ sym (below-of h k ∙ value-right v g C R (s - 15) (t - 15) i))
       (lt-or-le (s - 15) C))
       (lt-or-le s 15)
 

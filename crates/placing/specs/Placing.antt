@@ -37,9 +37,9 @@ pub record Edge (w a n e : ℕ) : Type 0 where
   pub last : 0 < e → e + a ≤ n
   pub next : e < w → n ≤ e + a
 
--- the cell s − 15 of a row; v left and right of the row
-unfoldable pub shifted : ℕ → List ℕ → ℕ → ℕ
-shifted v row s = cond (leb 15 s) (cond (ltb (s - 15) (length row)) (getD row (s - 15) 0) v) v
+-- the cell s − 15 of a row of n cells, which c gives by their numbers; v left and right of the row
+unfoldable pub shifted : ℕ → ℕ → (ℕ → ℕ) → ℕ → ℕ
+shifted v n c s = cond (leb 15 s) (cond (ltb (s - 15) n) (c (s - 15)) v) v
 
 -- the cell (s − 15, t − 15) of the source g of C columns and R rows; v outside it
 unfoldable pub seen : ℕ → ℕ → ℕ → List ℕ → ℕ → ℕ → ℕ

@@ -2,12 +2,12 @@
 use super::sizes;
 ghost use mathlib.Core.Path.{_≡_};
 ghost use Prim.Native.Nat.{_+_, _*_, _≤_};
-ghost use lib.ListN.{length};
+ghost use lib.ListN.{length, getD};
 ghost use Rattle.runs.specs.Runs.{over, Laid, Ranged};
 ghost use Rattle.placing.specs.Placing.{cutOut, Cut, Edge, shifted, seen};
 
 // How many of the first w cells stand before n when a is added to their numbers.
-fn edge(w: usize, a: usize, n: usize) -> usize
+pub fn edge(w: usize, a: usize, n: usize) -> usize
     ensures { λ r. ⌜ Edge w a n r ⌝ }
 {
     if n <= a {
@@ -22,7 +22,7 @@ fn edge(w: usize, a: usize, n: usize) -> usize
 // One row from a row of the source: the cells left of that row, those of it, and those right of it.
 fn line(row: &[u8], d: &mut [u8], a: usize, outside: u8)
     requires { ⌜ (length (now row) ≤ 65535) × (a ≤ 65535) ⌝ }
-    ensures { λ _. ⌜ Ranged 0 0 (length (now (d .entry))) (λ x. shifted outside (now (row .entry)) (x + a)) (now (d .entry)) (now (d .exit)) ⌝ }
+    ensures { λ _. ⌜ Ranged 0 0 (length (now (d .entry))) (λ x. shifted outside (length (now (row .entry))) (λ i. getD (now (row .entry)) i 0) (x + a)) (now (d .entry)) (now (d .exit)) ⌝ }
 {
     let n = d.len();
     let m = row.len();

@@ -4,3 +4,4 @@ mod cuts;
 mod sizes;
 
 pub use cuts::cut;
+pub use cuts::edge;

@@ -1,11 +1,14 @@
 -- Above and below the source all cells are filled; else the row is that of the source at its height.
 use borrow.Author.Needs.{needs}
 use native.Mathlib.Omega.{arith}
-use mathlib.Core.Path.{refl, sym}
-use Prim.Native.Nat.{_+_, _-_, _*_}
+use mathlib.Core.Path.{_≡_, sym, ap, _∙_}
+use Prim.Native.Nat.{ℕ, _+_, _-_, _*_}
 use native.Mathlib.Nat.{mul-comm}
-use Rattle.runs.proofs.Ranges.{ranged-ap}
+use lib.ListN.{length, getD}
+use borrow.Rule.Slice.PartMut.{midOf, mid-len}
+use Rattle.runs.proofs.Ranges.{ranged-ap, getD-mid}
 use Rattle.runs.proofs.FlatRows.{rows-apart}
+use Rattle.placing.specs.Placing.{shifted}
 use Rattle.placing.proofs.CutRows.{seen-above, seen-under, seen-line}
 use Rattle.placing.proofs.cuts.across.Statement.{statement}
 use Rattle.placing.proofs.cuts.across.Tie as tie
@@ -56,7 +59,13 @@ same-length-3 c = search needs
 returns-3 : tie.Need-returns-3
 returns-3 c =
     let a = c .before .before .before .before .before .before .before .before .before .args in
-    ranged-ap (c .before .before .line .ensures) (λ k lo hi. seen-line (a .outside) (a .v) (a .u) (a .src .now) (k + a .a) (a .t) ((a .t - 15) * a .v) refl (omega arith) (omega arith) (omega arith))
+    let q = (a .t - 15) * a .v in
+    let room = rows-apart (a .v) (a .t - 15) (a .u) (omega arith) in
+    let n : length (midOf q (q + a .v - q) (a .src .now)) ≡ a .v = mid-len q (q + a .v) (a .src .now) (omega (arith, room, mul-comm (a .v) (a .u))) ∙ omega arith in
+    ranged-ap (c .before .before .line .ensures) (λ k lo hi.
+    ap (λ (m : ℕ). shifted (a .outside) m (λ i. getD (midOf q (q + a .v - q) (a .src .now)) i 0) (k + a .a)) n
+    ∙ seen-line (a .outside) (a .v) (a .u) (a .src .now) (k + a .a) (a .t) (λ i. getD (midOf q (q + a .v - q) (a .src .now)) i 0) (omega arith) (omega arith) (omega arith)
+    (λ i l. getD-mid 0 q (q + a .v - q) (a .src .now) i (omega arith)))
 
 pub across-spec : {M : Type 1} → statement M
 across-spec =

@@ -3,7 +3,7 @@ use borrow.Author.Needs.{needs}
 use native.Mathlib.Omega.{arith}
 use mathlib.Core.Path.{sym}
 use Prim.Native.Nat.{_+_, _-_}
-use lib.ListN.{length}
+use lib.ListN.{length, getD}
 use Rattle.runs.proofs.Ranges.{ranged-ap, ranged-part, ranged-copy}
 use Rattle.placing.proofs.CutRows.{between, none-seen, line-is}
 use Rattle.placing.proofs.cuts.line.Statement.{statement}
@@ -29,7 +29,7 @@ returns c =
     let at-if = c .before .before .before .before in
     let a = at-if .before .before .before .before .before .args in
     ranged-ap (c .before .before .fill .ensures)
-    (λ k lo hi. sym (none-seen (a .outside) (a .row .now) (at-if .before .before .edge .ensures) (at-if .before .edge2 .ensures) k (at-if .if1 .taken) hi))
+    (λ k lo hi. sym (none-seen (a .outside) (length (a .row .now)) (λ i. getD (a .row .now) i 0) (at-if .before .before .edge .ensures) (at-if .before .edge2 .ensures) k (at-if .if1 .taken) hi))
 
 sub-fill : tie.Need-sub-fill
 sub-fill c = search needs
@@ -95,7 +95,7 @@ returns-2 c =
     let r₁ = ranged-part {a = 0} {e = p .result} {xs = a .d .now} (omega arith) (omega arith) (c .before .before .before .before .before .before .before .before .before .before .before .fill2 .ensures) in
     let r₂ = ranged-copy (p .result + a .a - 15) (length (a .row .now)) (a .row .now) {a = p .result} {e = e .result} (omega arith) (omega (arith, r₁ .len)) (omega arith) (omega (arith, s)) (c .before .before .before .before .before .before .copy .ensures) in
     let r₃ = ranged-part {a = e .result} {e = length (a .d .now)} (omega arith) (omega (arith, r₁ .len, r₂ .len)) (c .before .before .fill3 .ensures) in
-    line-is (a .outside) (a .row .now) (p .ensures) (e .ensures) (at-if .if1 .left) r₁ r₂ r₃
+    line-is (a .outside) (length (a .row .now)) (λ i. getD (a .row .now) i 0) (p .ensures) (e .ensures) (at-if .if1 .left) r₁ r₂ r₃
 
 pub line-spec : {M : Type 1} → statement M
 line-spec =
