@@ -193,10 +193,10 @@ fn engines<'a>(case: &'a Case, forms: &'a Forms) -> Vec<Engine<'a>> {
         engines.push(of_leptonica(name, case, kernels));
     }
     engines.push(by_grids(
-        "port",
+        "bytes",
         case,
         &forms.masks,
-        |&mask, erode, from, to| rust::port(mask, erode, WIDTH, from, to),
+        |&mask, erode, from, to| rust::bytes(mask, erode, WIDTH, from, to),
     ));
     engines.push(by_grids(
         "direct",

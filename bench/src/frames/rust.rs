@@ -1,14 +1,14 @@
-//! Stages in Rust: the form of the library's own, and a kernel's points applied
-//! directly, row by row.
+//! Stages in Rust: a flat loop over bytes for each cell of a mask, and a kernel's points
+//! applied directly, row by row.
 
 use super::kernel::Kernel;
 
 /// Cells that are gone through by one bit of the mask after the other, to stay in cache.
 const CHUNK: usize = 4096;
 
-/// The library's form: for each bit of the mask one flat loop over the grid, in chunks;
-/// then the two columns that took cells of a neighbouring row are done again.
-pub fn port(mask: u32, erode: bool, width: usize, from: &[u8], to: &mut [u8]) {
+/// For each cell of the mask one flat loop over the grid's bytes, in chunks; then the two
+/// columns that took cells of a neighbouring row are done again.
+pub fn bytes(mask: u32, erode: bool, width: usize, from: &[u8], to: &mut [u8]) {
     for (chunk, cells) in to.chunks_mut(CHUNK).enumerate() {
         let start = chunk * CHUNK;
         for bit in (0..9).filter(|bit| mask >> bit & 1 == 1) {

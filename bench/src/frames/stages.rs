@@ -37,8 +37,8 @@ fn engines<'a>(mask: u32, kernel: &'a Kernel, erode: bool, from: &'a [u8]) -> Ve
         assert_eq!(answer, 0, "mask {mask}");
         asked(read, &one)
     };
-    let port = move |read| {
-        rust::port(mask, erode, WIDTH, from, &mut two);
+    let bytes = move |read| {
+        rust::bytes(mask, erode, WIDTH, from, &mut two);
         asked(read, &two)
     };
     let direct = move |read| {
@@ -59,7 +59,7 @@ fn engines<'a>(mask: u32, kernel: &'a Kernel, erode: bool, from: &'a [u8]) -> Ve
     five.clear();
     #[cfg(feature = "leptonica")]
     engines.push(leptonica(kernel, erode, from));
-    engines.push(Engine::new("port", port));
+    engines.push(Engine::new("bytes", bytes));
     engines.push(Engine::new("direct", direct));
     engines.push(Engine::copying("copy", copy));
     engines
