@@ -1,17 +1,26 @@
 //! Whole operations: a frame by plans of 1, 4 and 8 stages. The others put the frame into
 //! a grid, go through the stages or the whole shape, and cut the last grid to the frame.
 
+use super::builds::{Build, BUILDS};
 use super::kernel::Kernel;
-use super::*;
+use super::table::{asked, Engine, Pace, Pages, Row, Table};
+use super::{pictures, rust, Size, GREATEST};
 use musqerpi_tests::lists::list_of_rows;
 use musqerpi_tests::operations::makers::planned;
-use musqerpi_tests::operations::{library, plan_list, Case, Op, OPS};
-use musqerpi_tests::random::Random;
+use musqerpi_tests::operations::{plan_list, Case, Op, OPS};
+use std::hint::black_box;
 
-const ROUNDS: usize = 41;
+const PACE: Pace = Pace {
+    rounds: 41,
+    times: 1,
+    decimals: 1,
+};
 
-/// Names and plans: thin masks and thick shapes, of 1, 4 and 8 stages.
-fn plans() -> Vec<(&'static str, Vec<u32>)> {
+/// A plan and its name in a table.
+pub type Plan = (&'static str, Vec<u32>);
+
+/// Thin masks and thick shapes, of 1, 4 and 8 stages.
+fn plans() -> Vec<Plan> {
     let thin = [3, 3, 5, 5, 9, 9, 65, 65];
     let disk = |x: i32, y: i32| (x - 4).pow(2) + (y - 4).pow(2) <= 16;
     let row = |y: i32| {
@@ -34,33 +43,13 @@ fn plans() -> Vec<(&'static str, Vec<u32>)> {
     ]
 }
 
-/// A frame of rectangles and single cells, so that something is left by each operation.
-fn frame() -> Vec<u8> {
-    let mut random = Random::new(2027);
-    let mut cells = vec![0; SIDE * SIDE];
-    for _ in 0..40 {
-        let (left, top) = (random.below(SIDE - 40), random.below(SIDE - 40));
-        let (w, h) = (1 + random.below(40), 1 + random.below(40));
-        for y in top..top + h {
-            cells[y * SIDE + left..y * SIDE + left + w].fill(1);
-        }
-    }
-    for _ in 0..300 {
-        cells[random.below(SIDE * SIDE)] ^= 1;
-    }
-    cells
-}
-
-/// The frame in a grid, with the rest of it 0.
-fn put(frame: &[u8], grid: &mut [u8]) {
-    grid.fill(0);
-    for (to, from) in grid.chunks_mut(WIDTH).zip(frame.chunks(SIDE)) {
-        to[..SIDE].copy_from_slice(from);
-    }
+fn size_of(case: &Case) -> Size {
+    let (w, h) = (case.w, case.h);
+    Size { w, h }
 }
 
 /// Cell (x, y) of the frame is the grid's, moved by the operation's offset, and free
-/// outside the grid.
+/// outside the grid. The offset is less than W either way.
 fn cut(case: &Case, grid: &[u8], cells: &mut [u8]) {
     let (dx, dy) = case.offset();
     let (dx, dy) = match case.op {
@@ -68,13 +57,14 @@ fn cut(case: &Case, grid: &[u8], cells: &mut [u8]) {
         Op::Erode => (dx, dy),
         Op::Open | Op::Close => (0, 0),
     };
+    let (w, width) = (case.w, size_of(case).width());
     let left = (-dx).max(0) as usize;
-    let right = SIDE.min((WIDTH as i64 - dx) as usize);
-    for (y, row) in cells.chunks_mut(SIDE).enumerate() {
+    let right = w.min((width as i64 - dx) as usize);
+    for (y, row) in cells.chunks_mut(w).enumerate() {
         let from = y as i64 + dy;
         row.fill(0);
-        if (0..WIDTH as i64).contains(&from) {
-            let start = (from * WIDTH as i64 + left as i64 + dx) as usize;
+        if (0..case.h as i64 + 15).contains(&from) {
+            let start = (from * width as i64 + left as i64 + dx) as usize;
             row[left..right].copy_from_slice(&grid[start..start + right - left]);
         }
     }
@@ -87,10 +77,11 @@ fn by_grids<'a, K>(
     kernels: &'a [K],
     apply: impl Fn(&K, bool, &[u8], &mut [u8]) + 'a,
 ) -> Engine<'a> {
-    let (mut from, mut to) = (vec![7; GRID], vec![7; GRID]);
-    let mut cells = vec![7; SIDE * SIDE];
+    let size = size_of(case);
+    let (mut from, mut to) = (vec![7; size.grid()], vec![7; size.grid()]);
+    let mut cells = vec![7; size.cells()];
     Engine::new(name, move |read| {
-        put(&case.frame, &mut from);
+        rust::put(size, &case.frame, &mut from);
         for &erode in case.op.passes() {
             for kernel in kernels {
                 apply(kernel, erode, &from, &mut to);
@@ -102,40 +93,49 @@ fn by_grids<'a, K>(
     })
 }
 
-/// The operation and the call that hands back its part.
-fn of_library(case: &Case) -> Engine<'_> {
-    let (mut first, mut second) = (vec![7; GRID], vec![7; GRID]);
-    Engine::new("library", move |read| {
-        let (size, plan) = ((SIDE, SIDE), &case.plan);
-        let stages = library::operate(case.op, plan, size, &case.frame, &mut first, &mut second);
+/// The operation and the call that hands back its part. The second image stands right
+/// after the first.
+fn of_build<'a>(build: &'static Build, case: &'a Case) -> Engine<'a> {
+    let (pair, grid) = (size_of(case).pair(), size_of(case).grid());
+    let next = grid.next_multiple_of(64);
+    let mut images = Pages::new(next + grid);
+    let run = case.op.stages_run(case.stages()) as i64;
+    Engine::new(build.name, move |read| {
+        let (first, second) = images.bytes().split_at_mut(next);
+        let first = &mut first[..grid];
+        let stages = (build.operate)(case.op, &case.plan, pair, &case.frame, first, second);
+        assert_eq!(stages, run, "{:?}", case.op);
         let mut image = 0;
-        let length = library::part(stages as usize, size, &first, &second, &mut image);
-        let from = if image == 1 { &first } else { &second };
+        let length = (build.part)(stages as usize, pair, first, second, &mut image);
+        let from = if image == 1 { first } else { second };
         asked(read, &from[..length as usize])
     })
 }
 
 /// As many copies of the grid as stages are run, and one at least.
 fn of_copies(case: &Case) -> Engine<'_> {
-    let (mut from, mut to) = (vec![0; GRID], vec![7; GRID]);
+    let grid = size_of(case).grid();
+    let (mut from, mut to) = (vec![0; grid], vec![7; grid]);
     let copies = case.op.stages_run(case.stages()).max(1);
-    Engine::copying("copies", move |read| {
+    let engine = Engine::new("copies", move |read| {
         for _ in 0..copies {
             to.copy_from_slice(black_box(&from));
             std::mem::swap(&mut from, &mut to);
         }
         asked(read, black_box(&from))
-    })
+    });
+    engine.copying()
 }
 
 /// Stages of one bit a cell; putting and cutting are left out of the time.
 #[cfg(feature = "leptonica")]
 fn of_leptonica<'a>(name: &'static str, case: &'a Case, kernels: &[Kernel]) -> Engine<'a> {
-    use other::leptonica::{apply, Image, Sel};
-    let mut grid = vec![0; GRID];
-    put(&case.frame, &mut grid);
-    let start = Image::of(&grid, WIDTH);
-    let (mut from, mut to) = (Image::of(&grid, WIDTH), Image::of(&grid, WIDTH));
+    use super::other::leptonica::{apply, Image, Sel};
+    let (size, width) = (size_of(case), size_of(case).width());
+    let mut grid = vec![0; size.grid()];
+    rust::put(size, &case.frame, &mut grid);
+    let start = Image::of(&grid, width);
+    let (mut from, mut to) = (Image::of(&grid, width), Image::of(&grid, width));
     let sels: Vec<Sel> = kernels.iter().map(Sel::of).collect();
     Engine::new(name, move |read| {
         for (pass, &erode) in case.op.passes().iter().enumerate() {
@@ -148,8 +148,8 @@ fn of_leptonica<'a>(name: &'static str, case: &'a Case, kernels: &[Kernel]) -> E
         if !read {
             return Vec::new();
         }
-        let mut cells = vec![7; SIDE * SIDE];
-        cut(case, &from.cells(GRID, WIDTH), &mut cells);
+        let mut cells = vec![7; size.cells()];
+        cut(case, &from.cells(size.grid(), width), &mut cells);
         cells
     })
 }
@@ -175,15 +175,18 @@ impl Forms {
 }
 
 fn engines<'a>(case: &'a Case, forms: &'a Forms) -> Vec<Engine<'a>> {
-    let mut engines = vec![of_library(case)];
+    let width = size_of(case).width();
+    let builds = BUILDS.iter().map(|build| of_build(build, case));
+    let mut engines: Vec<Engine> = builds.collect();
     #[cfg(feature = "opencv")]
     for (name, kernels) in [
         ("OpenCV stages", &forms.stages[..]),
         ("OpenCV whole", &forms.whole),
     ] {
-        engines.push(by_grids(name, case, kernels, |kernel, erode, from, to| {
-            other::opencv::apply(kernel, erode, WIDTH, from, to)
-        }));
+        let apply = move |kernel: &Kernel, erode, from: &[u8], to: &mut [u8]| {
+            super::other::opencv::apply(kernel, erode, width, from, to)
+        };
+        engines.push(by_grids(name, case, kernels, apply));
     }
     #[cfg(feature = "leptonica")]
     for (name, kernels) in [
@@ -192,34 +195,34 @@ fn engines<'a>(case: &'a Case, forms: &'a Forms) -> Vec<Engine<'a>> {
     ] {
         engines.push(of_leptonica(name, case, kernels));
     }
-    engines.push(by_grids(
-        "bytes",
-        case,
-        &forms.masks,
-        |&mask, erode, from, to| rust::bytes(mask, erode, WIDTH, from, to),
-    ));
-    engines.push(by_grids(
-        "direct",
-        case,
-        &forms.whole,
-        |kernel, erode, from, to| rust::direct(kernel, erode, WIDTH, from, to),
-    ));
+    let bytes = move |&mask: &u32, erode, from: &[u8], to: &mut [u8]| {
+        rust::bytes(mask, erode, width, from, to)
+    };
+    engines.push(by_grids("bytes", case, &forms.masks, bytes));
+    let direct = move |kernel: &Kernel, erode, from: &[u8], to: &mut [u8]| {
+        rust::direct(kernel, erode, width, from, to)
+    };
+    engines.push(by_grids("direct", case, &forms.whole, direct));
     engines.push(of_copies(case));
     engines
 }
 
-pub fn run() {
-    let frame = frame();
-    for (i, op) in OPS.into_iter().enumerate() {
-        for (k, (name, plan)) in plans().into_iter().enumerate() {
-            let case = Case::new(op, &plan, (SIDE, SIDE), &frame, (GRID, GRID));
-            let forms = Forms::of(&plan);
-            let mut engines = engines(&case, &forms);
-            if i + k == 0 {
-                print_names("operation", &names(&engines));
-            }
-            let row = format!("{op:?}, {name}");
-            print_line(&row, &mut engines, ROUNDS, 1);
+/// The rows of all four operations by these plans, each with the plan's stages.
+pub fn rows(table: &mut Table, plans: &[Plan]) -> Vec<(usize, Row)> {
+    let (size, frame) = (table.size, pictures::frame(table.size));
+    let mut rows = Vec::new();
+    for op in OPS {
+        for (name, plan) in plans {
+            let images = (size.grid(), size.grid());
+            let case = Case::new(op, plan, size.pair(), &frame, images);
+            let forms = Forms::of(plan);
+            let row = table.row(format!("{op:?}, {name}"), engines(&case, &forms));
+            rows.push((case.stages(), row));
         }
     }
+    rows
+}
+
+pub fn run() -> Vec<(usize, Row)> {
+    rows(&mut Table::new("operation", GREATEST, PACE), &plans())
 }

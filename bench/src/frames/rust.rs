@@ -1,10 +1,21 @@
-//! Stages in Rust: a flat loop over bytes for each cell of a mask, and a kernel's points
-//! applied directly, row by row.
+//! In plain Rust: putting a frame, and stages by a flat loop over bytes for each cell of a
+//! mask, and by a kernel's points directly, row by row.
 
 use super::kernel::Kernel;
+use super::Size;
 
 /// Cells that are gone through by one bit of the mask after the other, to stay in cache.
 const CHUNK: usize = 4096;
+
+/// Fills the grid with 0, and then copies the frame row by row. Like the library it isn't
+/// told the size when it is compiled.
+#[inline(never)]
+pub fn put(size: Size, frame: &[u8], grid: &mut [u8]) {
+    grid.fill(0);
+    for (to, from) in grid.chunks_mut(size.width()).zip(frame.chunks(size.w)) {
+        to[..size.w].copy_from_slice(from);
+    }
+}
 
 /// For each cell of the mask one flat loop over the grid's bytes, in chunks; then the two
 /// columns that took cells of a neighbouring row are done again.

@@ -1,9 +1,11 @@
 //! Single stages: one grid through one mask, by dilation and by erosion.
 
+use super::builds::BUILDS;
 use super::kernel::Kernel;
-use super::*;
-use musqerpi_tests::frames::{library, stage_word};
-use musqerpi_tests::random::Random;
+use super::table::{asked, Engine, Pace, Pages, Row, Table};
+use super::{pictures, rust, Size, GREATEST};
+use musqerpi_tests::frames::stage_word;
+use std::hint::black_box;
 
 /// Masks of 2, 5, 8 and 9 cells.
 const MASKS: [u32; 14] = [
@@ -13,99 +15,102 @@ const MASKS: [u32; 14] = [
     511,
 ];
 
-const ROUNDS: usize = 101;
-const TIMES: usize = 8;
+const PACE: Pace = Pace {
+    rounds: 101,
+    times: 8,
+    decimals: 1,
+};
 
-/// A grid with a random frame in it: one cell in four occupied, for erosion all but one.
-fn grid(erode: bool) -> Vec<u8> {
-    let mut random = Random::new(2026);
-    let mut grid = vec![0; GRID];
-    for row in grid.chunks_mut(WIDTH).take(SIDE) {
-        for cell in &mut row[..SIDE] {
-            *cell = u8::from(random.once_in(4) != erode);
-        }
-    }
-    grid
+/// One stage, and the grid that it is taken through.
+struct Case {
+    size: Size,
+    mask: u32,
+    erode: bool,
+    kernel: Kernel,
+    from: Vec<u8>,
 }
 
-fn engines<'a>(mask: u32, kernel: &'a Kernel, erode: bool, from: &'a [u8]) -> Vec<Engine<'a>> {
-    let mut to = [const { Vec::new() }; 5];
-    to.fill(vec![7u8; GRID]);
-    let [mut one, mut two, mut three, mut four, mut five] = to;
-    let library = move |read| {
-        let answer = library::stage(stage_word(mask), erode, (SIDE, SIDE), from, &mut one);
-        assert_eq!(answer, 0, "mask {mask}");
-        asked(read, &one)
-    };
-    let bytes = move |read| {
-        rust::bytes(mask, erode, WIDTH, from, &mut two);
-        asked(read, &two)
-    };
-    let direct = move |read| {
-        rust::direct(kernel, erode, WIDTH, from, &mut three);
-        asked(read, &three)
-    };
-    let copy = move |read| {
-        four.copy_from_slice(from);
-        asked(read, black_box(&four))
-    };
-    let mut engines = vec![Engine::new("library", library)];
+impl Case {
+    fn new(size: Size, mask: u32, erode: bool) -> Case {
+        Case {
+            size,
+            mask,
+            erode,
+            kernel: Kernel::of_mask(mask),
+            from: pictures::grid(size, erode),
+        }
+    }
+}
+
+/// Takes the case's grid into one of its own.
+fn into_grid<'a>(
+    name: &'static str,
+    case: &'a Case,
+    apply: impl Fn(&[u8], &mut [u8]) + 'a,
+) -> Engine<'a> {
+    let mut to = Pages::new(case.size.grid());
+    Engine::new(name, move |read| {
+        apply(&case.from, to.bytes());
+        asked(read, black_box(to.bytes()))
+    })
+}
+
+fn engines(case: &Case) -> Vec<Engine<'_>> {
+    let (mask, erode, kernel) = (case.mask, case.erode, &case.kernel);
+    let (word, size, width) = (stage_word(mask), case.size.pair(), case.size.width());
+    let mut engines = Vec::new();
+    for build in BUILDS {
+        engines.push(into_grid(build.name, case, move |from, to| {
+            let answer = (build.stage)(word, erode, size, from, to);
+            assert_eq!(answer, 0, "mask {mask}");
+        }));
+    }
     #[cfg(feature = "opencv")]
-    engines.push(Engine::new("OpenCV", move |read| {
-        other::opencv::apply(kernel, erode, WIDTH, from, &mut five);
-        asked(read, &five)
+    engines.push(into_grid("OpenCV", case, move |from, to| {
+        super::other::opencv::apply(kernel, erode, width, from, to)
     }));
-    #[cfg(not(feature = "opencv"))]
-    five.clear();
     #[cfg(feature = "leptonica")]
-    engines.push(leptonica(kernel, erode, from));
-    engines.push(Engine::new("bytes", bytes));
-    engines.push(Engine::new("direct", direct));
-    engines.push(Engine::copying("copy", copy));
+    engines.push(leptonica(case));
+    engines.push(into_grid("bytes", case, move |from, to| {
+        rust::bytes(mask, erode, width, from, to)
+    }));
+    engines.push(into_grid("direct", case, move |from, to| {
+        rust::direct(kernel, erode, width, from, to)
+    }));
+    let copy = into_grid("copy", case, |from, to| to.copy_from_slice(from));
+    engines.push(copy.copying());
     engines
 }
 
 /// The images are made before, and no cell is turned into a bit while time is taken.
 #[cfg(feature = "leptonica")]
-fn leptonica<'a>(kernel: &'a Kernel, erode: bool, from: &'a [u8]) -> Engine<'a> {
-    use other::leptonica::{apply, Image, Sel};
-    let (from, sel) = (Image::of(from, WIDTH), Sel::of(kernel));
-    let mut to = Image::of(&[0; GRID], WIDTH);
+fn leptonica(case: &Case) -> Engine<'_> {
+    use super::other::leptonica::{apply, Image, Sel};
+    let (grid, width) = (case.size.grid(), case.size.width());
+    let (from, sel) = (Image::of(&case.from, width), Sel::of(&case.kernel));
+    let mut to = Image::of(&vec![0; grid], width);
     Engine::new("leptonica", move |read| {
-        apply(&sel, erode, &from, &mut to);
+        apply(&sel, case.erode, &from, &mut to);
         match read {
-            true => to.cells(GRID, WIDTH),
+            true => to.cells(grid, width),
             false => Vec::new(),
         }
     })
 }
 
-pub fn run() {
-    let (mut worst, mut above, mut lines) = (0.0f64, Vec::new(), 0);
-    for erode in [false, true] {
-        let (from, kind) = (grid(erode), if erode { "erosion" } else { "dilation" });
-        for (i, mask) in MASKS.into_iter().enumerate() {
-            let kernel = Kernel::of_mask(mask);
-            let mut engines = engines(mask, &kernel, erode, &from);
-            let names = names(&engines);
-            if i == 0 {
-                print_names(&format!("stage, {kind}"), &names);
-            }
-            let row = format!("mask {mask}, {} cells", mask.count_ones());
-            let ratios = print_line(&row, &mut engines, ROUNDS, TIMES);
-            if let Some(place) = place_of(&names, "OpenCV") {
-                (worst, lines) = (worst.max(ratios[place]), lines + 1);
-                if ratios[place] > 1.0 {
-                    above.push(format!("{kind} by {mask} ({:.2})", ratios[place]));
-                }
-            }
+/// The rows of these masks, of both kinds.
+pub fn rows(table: &mut Table, masks: &[u32]) -> Vec<Row> {
+    let mut rows = Vec::new();
+    for (erode, kind) in [(false, "dilation"), (true, "erosion")] {
+        for &mask in masks {
+            let case = Case::new(table.size, mask, erode);
+            let name = format!("{kind} by {mask}, {} cells", mask.count_ones());
+            rows.push(table.row(name, engines(&case)));
         }
     }
-    if lines > 0 {
-        println!(
-            "stages, library over OpenCV: at most {worst:.2}; above 1.00 at {} of {lines}: {}",
-            above.len(),
-            above.join(", ")
-        );
-    }
+    rows
+}
+
+pub fn run() -> Vec<Row> {
+    rows(&mut Table::new("stage", GREATEST, PACE), &MASKS)
 }

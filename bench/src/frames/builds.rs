@@ -1,0 +1,22 @@
+//! Builds of the library: the one that stands in target/.
+
+use musqerpi_tests::operations::Op;
+use musqerpi_tests::{frames, operations};
+
+type Stage = fn(u32, bool, (usize, usize), &[u8], &mut [u8]) -> i64;
+type Operate = fn(Op, &[u32], (usize, usize), &[u8], &mut [u8], &mut [u8]) -> i64;
+type Part = fn(usize, (usize, usize), &[u8], &[u8], &mut u8) -> i64;
+
+pub struct Build {
+    pub name: &'static str,
+    pub stage: Stage,
+    pub operate: Operate,
+    pub part: Part,
+}
+
+pub const BUILDS: &[Build] = &[Build {
+    name: "library",
+    stage: frames::library::stage,
+    operate: operations::library::operate,
+    part: operations::library::part,
+}];

@@ -1,0 +1,167 @@
+//! Tables: engines that do the same work, compared and then timed in turn, a row of
+//! them at a time.
+
+use super::Size;
+use std::hint::black_box;
+use std::time::Instant;
+
+/// Something that is timed. It does its work once, and answers the cells that came of it
+/// if asked for, else none.
+pub struct Engine<'a> {
+    name: &'static str,
+    run: Box<dyn FnMut(bool) -> Vec<u8> + 'a>,
+    /// Copies bytes alone, so its cells aren't compared.
+    copies: bool,
+}
+
+impl<'a> Engine<'a> {
+    pub fn new(name: &'static str, run: impl FnMut(bool) -> Vec<u8> + 'a) -> Engine<'a> {
+        let (run, copies) = (Box::new(run), false);
+        Engine { name, run, copies }
+    }
+
+    pub fn copying(self) -> Engine<'a> {
+        Engine {
+            copies: true,
+            ..self
+        }
+    }
+}
+
+/// The cells if they were asked for.
+pub fn asked(read: bool, cells: &[u8]) -> Vec<u8> {
+    if read {
+        cells.to_vec()
+    } else {
+        Vec::new()
+    }
+}
+
+/// Memory for writing that starts with a page, so that of two engines neither is the
+/// better for where its bytes stand.
+pub struct Pages {
+    memory: Vec<u8>,
+    start: usize,
+    n: usize,
+}
+
+pub const PAGE: usize = 4096;
+
+impl Pages {
+    /// So many bytes, none of which is a cell.
+    pub fn new(n: usize) -> Pages {
+        let memory = vec![7; n + PAGE];
+        let start = memory.as_ptr().align_offset(PAGE);
+        Pages { memory, start, n }
+    }
+
+    pub fn bytes(&mut self) -> &mut [u8] {
+        &mut self.memory[self.start..][..self.n]
+    }
+}
+
+/// How a table is measured: rounds that count, and how often each engine works in one.
+/// And how many decimals the microseconds have.
+#[derive(Clone, Copy)]
+pub struct Pace {
+    pub rounds: usize,
+    pub times: usize,
+    pub decimals: usize,
+}
+
+/// A table that is printed while it is measured.
+pub struct Table {
+    pub size: Size,
+    pace: Pace,
+    what: &'static str,
+    begun: bool,
+}
+
+/// A row as it was measured; the first of its engines is the library.
+pub struct Row {
+    pub name: String,
+    engines: Vec<&'static str>,
+    seconds: Vec<f64>,
+}
+
+impl Row {
+    /// Of the library.
+    pub fn microseconds(&self) -> f64 {
+        self.seconds[0] * 1e6
+    }
+
+    /// The library's time over this engine's, if that was timed.
+    pub fn over(&self, engine: &str) -> Option<f64> {
+        let place = self.engines.iter().position(|&name| name == engine)?;
+        Some(self.seconds[0] / self.seconds[place])
+    }
+}
+
+impl Table {
+    pub fn new(what: &'static str, size: Size, pace: Pace) -> Table {
+        Table {
+            size,
+            pace,
+            what,
+            begun: false,
+        }
+    }
+
+    /// Compares, measures and prints one row.
+    pub fn row(&mut self, name: String, mut engines: Vec<Engine>) -> Row {
+        assert_agreement(&format!("{}, {name}", self.size), &mut engines);
+        let names = engines.iter().map(|engine| engine.name).collect();
+        let row = Row {
+            name,
+            engines: names,
+            seconds: measure(&mut engines, self.pace),
+        };
+        self.print(&row);
+        row
+    }
+
+    /// The library's microseconds, and its time over each other's; the names of the
+    /// columns above the first row.
+    fn print(&mut self, row: &Row) {
+        let others = row.engines[1..].iter();
+        if !self.begun {
+            let names: Vec<String> = others.clone().map(|name| format!("{name:>16}")).collect();
+            let what = format!("{}, {}", self.what, self.size);
+            println!("{what:<28}{:>10}{}", "us", names.concat());
+            self.begun = true;
+        }
+        let ratios = others.filter_map(|name| row.over(name));
+        let ratios: Vec<String> = ratios.map(|ratio| format!("{ratio:>16.2}")).collect();
+        let (time, decimals) = (row.microseconds(), self.pace.decimals);
+        println!("{:<28}{time:>10.decimals$}{}", row.name, ratios.concat());
+    }
+}
+
+/// All engines come to the same cells as the first, and these aren't all alike.
+fn assert_agreement(row: &str, engines: &mut [Engine]) {
+    let wanted = (engines[0].run)(true);
+    assert!(wanted.contains(&0) && wanted.contains(&1), "{row}: alike");
+    for engine in engines.iter_mut().filter(|engine| !engine.copies) {
+        let same = (engine.run)(true) == wanted;
+        assert!(same, "{row}: {} and the library differ", engine.name);
+    }
+}
+
+/// The median seconds of each engine's work: in each round every engine in turn works
+/// so many times; one round before isn't counted.
+fn measure(engines: &mut [Engine], pace: Pace) -> Vec<f64> {
+    let mut seconds = vec![Vec::new(); engines.len()];
+    for round in 0..=pace.rounds {
+        for (engine, seconds) in engines.iter_mut().zip(&mut seconds) {
+            let start = Instant::now();
+            for _ in 0..pace.times {
+                black_box((engine.run)(black_box(false)));
+            }
+            let each = start.elapsed().as_secs_f64() / pace.times as f64;
+            if round > 0 {
+                seconds.push(each);
+            }
+        }
+    }
+    seconds.into_iter().map(crate::median).collect()
+}
