@@ -1,5 +1,5 @@
-//! Frames: single stages and whole operations at the greatest size, 240 by 240; the
-//! library beside OpenCV, leptonica, Rust and a plain copy of the grid.
+//! Frames: putting, single stages and whole operations at the greatest size, 240 by 240;
+//! the library beside OpenCV, leptonica, Rust and plain copies.
 
 use musqerpi_tests::frames::grid_of;
 use std::fmt;
@@ -9,6 +9,7 @@ mod kernel;
 mod operations;
 mod other;
 mod pictures;
+mod putting;
 mod rust;
 mod stages;
 mod table;
@@ -54,6 +55,7 @@ pub fn run() {
     #[cfg(feature = "leptonica")]
     println!("{}, one bit a cell", other::leptonica::version());
     println!("the library's microseconds, and its time over the others'");
+    putting::run();
     stages::run();
     operations::run();
 }

@@ -3,12 +3,14 @@
 use musqerpi_tests::operations::Op;
 use musqerpi_tests::{frames, operations};
 
+type Put = fn(usize, usize, &[u8], &mut [u8]) -> i64;
 type Stage = fn(u32, bool, (usize, usize), &[u8], &mut [u8]) -> i64;
 type Operate = fn(Op, &[u32], (usize, usize), &[u8], &mut [u8], &mut [u8]) -> i64;
 type Part = fn(usize, (usize, usize), &[u8], &[u8], &mut u8) -> i64;
 
 pub struct Build {
     pub name: &'static str,
+    pub put: Put,
     pub stage: Stage,
     pub operate: Operate,
     pub part: Part,
@@ -16,6 +18,7 @@ pub struct Build {
 
 pub const BUILDS: &[Build] = &[Build {
     name: "library",
+    put: frames::library::put,
     stage: frames::library::stage,
     operate: operations::library::operate,
     part: operations::library::part,

@@ -3,17 +3,18 @@
 
 use super::kernel::Kernel;
 use super::Size;
+use std::hint::black_box;
 
 /// Cells that are gone through by one bit of the mask after the other, to stay in cache.
 const CHUNK: usize = 4096;
 
 /// Fills the grid with 0, and then copies the frame row by row. Like the library it isn't
 /// told the size when it is compiled.
-#[inline(never)]
 pub fn put(size: Size, frame: &[u8], grid: &mut [u8]) {
+    let (w, width) = black_box((size.w, size.width()));
     grid.fill(0);
-    for (to, from) in grid.chunks_mut(size.width()).zip(frame.chunks(size.w)) {
-        to[..size.w].copy_from_slice(from);
+    for (to, from) in grid.chunks_mut(width).zip(frame.chunks(w)) {
+        to[..w].copy_from_slice(from);
     }
 }
 

@@ -1,0 +1,68 @@
+//! Putting a frame into the grid of an image, which stands right after the frame or far
+//! from it. All engines of a row work on the same bytes.
+
+use super::builds::BUILDS;
+use super::table::{asked, Engine, Pace, Pages, Row, Table, PAGE};
+use super::{pictures, rust, GREATEST};
+use std::cell::RefCell;
+use std::hint::black_box;
+
+const PACE: Pace = Pace {
+    rounds: 101,
+    times: 32,
+    decimals: 2,
+};
+
+/// Names, and the bytes between frame and image: none, or more than W × (H + 15). They are
+/// whole pages, so the rows differ in nothing else.
+const PLACES: [(&str, usize); 2] = [
+    ("image right after the frame", 0),
+    ("image elsewhere", 32 * PAGE),
+];
+
+/// Works on frame and image, with so many bytes between them.
+fn on_both<'a>(
+    name: &'static str,
+    memory: &'a RefCell<Pages>,
+    between: usize,
+    put: impl Fn(&[u8], &mut [u8]) + 'a,
+) -> Engine<'a> {
+    Engine::new(name, move |read| {
+        let mut memory = memory.borrow_mut();
+        let (frame, rest) = memory.bytes().split_at_mut(GREATEST.cells());
+        let image = &mut rest[between..];
+        if read {
+            // What the engine before left there may not stand for this one's work.
+            image.fill(7);
+        }
+        put(frame, image);
+        asked(read, black_box(image))
+    })
+}
+
+fn engines(memory: &RefCell<Pages>, between: usize) -> Vec<Engine<'_>> {
+    let (w, h) = GREATEST.pair();
+    let mut engines = Vec::new();
+    for build in BUILDS {
+        engines.push(on_both(build.name, memory, between, move |frame, image| {
+            assert_eq!((build.put)(w, h, frame, image), 0, "putting");
+        }));
+    }
+    let fill_and_copy = |frame: &[u8], image: &mut [u8]| rust::put(GREATEST, frame, image);
+    engines.push(on_both("fill and copy", memory, between, fill_and_copy));
+    let copy = |frame: &[u8], image: &mut [u8]| image[..frame.len()].copy_from_slice(frame);
+    engines.push(on_both("copy", memory, between, copy).copying());
+    engines
+}
+
+pub fn run() -> Vec<Row> {
+    let mut table = Table::new("putting", GREATEST, PACE);
+    let frame = pictures::frame(GREATEST);
+    let row = |(name, between): (&str, usize)| {
+        let mut memory = Pages::new(frame.len() + between + GREATEST.grid());
+        memory.bytes()[..frame.len()].copy_from_slice(&frame);
+        let memory = RefCell::new(memory);
+        table.row(name.to_string(), engines(&memory, between))
+    };
+    PLACES.into_iter().map(row).collect()
+}
