@@ -4,6 +4,8 @@
 use musqerpi_tests::frames::grid_of;
 use std::fmt;
 
+#[cfg(feature = "before")]
+mod before;
 mod builds;
 mod kernel;
 mod operations;

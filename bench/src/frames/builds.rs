@@ -1,5 +1,8 @@
-//! Builds of the library: the one that stands in target/.
+//! Builds of the library: the one that stands in target/, and where the feature `before`
+//! is on another beside it.
 
+#[cfg(feature = "before")]
+use super::before;
 use musqerpi_tests::operations::Op;
 use musqerpi_tests::{frames, operations};
 
@@ -16,10 +19,20 @@ pub struct Build {
     pub part: Part,
 }
 
-pub const BUILDS: &[Build] = &[Build {
-    name: "library",
-    put: frames::library::put,
-    stage: frames::library::stage,
-    operate: operations::library::operate,
-    part: operations::library::part,
-}];
+pub const BUILDS: &[Build] = &[
+    Build {
+        name: "library",
+        put: frames::library::put,
+        stage: frames::library::stage,
+        operate: operations::library::operate,
+        part: operations::library::part,
+    },
+    #[cfg(feature = "before")]
+    Build {
+        name: "before",
+        put: before::put,
+        stage: before::stage,
+        operate: before::operate,
+        part: before::part,
+    },
+];
