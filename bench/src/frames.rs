@@ -1,5 +1,5 @@
-//! Frames: putting, single stages and whole operations at the greatest size, 240 by 240;
-//! the library beside OpenCV, leptonica, Rust and plain copies.
+//! Frames: putting, single stages and whole operations at the greatest size, 240 by 240,
+//! and on small frames; the library beside OpenCV, leptonica, Rust and plain copies.
 
 use musqerpi_tests::frames::grid_of;
 use std::fmt;
@@ -13,6 +13,7 @@ mod other;
 mod pictures;
 mod putting;
 mod rust;
+mod small;
 mod stages;
 mod table;
 
@@ -60,4 +61,5 @@ pub fn run() {
     putting::run();
     stages::run();
     operations::run();
+    small::run();
 }

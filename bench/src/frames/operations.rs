@@ -3,7 +3,7 @@
 
 use super::builds::{Build, BUILDS};
 use super::kernel::Kernel;
-use super::table::{asked, Engine, Pace, Pages, Row, Table};
+use super::table::{asked, Engine, Lent, Pace, Row, Table};
 use super::{pictures, rust, Size, GREATEST};
 use musqerpi_tests::lists::list_of_rows;
 use musqerpi_tests::operations::makers::planned;
@@ -98,12 +98,13 @@ fn by_grids<'a, K>(
 fn of_build<'a>(build: &'static Build, case: &'a Case) -> Engine<'a> {
     let (pair, grid) = (size_of(case).pair(), size_of(case).grid());
     let next = grid.next_multiple_of(64);
-    let mut images = Pages::new(next + grid);
+    let mut memory = Lent::apart(&case.frame, next + grid);
     let run = case.op.stages_run(case.stages()) as i64;
     Engine::new(build.name, move |read| {
-        let (first, second) = images.bytes().split_at_mut(next);
+        let (frame, images) = memory.parts();
+        let (first, second) = images.split_at_mut(next);
         let first = &mut first[..grid];
-        let stages = (build.operate)(case.op, &case.plan, pair, &case.frame, first, second);
+        let stages = (build.operate)(case.op, &case.plan, pair, frame, first, second);
         assert_eq!(stages, run, "{:?}", case.op);
         let mut image = 0;
         let length = (build.part)(stages as usize, pair, first, second, &mut image);

@@ -19,14 +19,22 @@ pub fn grid(size: Size, erode: bool) -> Vec<u8> {
 pub fn frame(size: Size) -> Vec<u8> {
     let mut random = Random::new(2027);
     let mut cells = vec![0; size.cells()];
-    for _ in 0..40 {
-        let (left, top) = (random.below(size.w - 40), random.below(size.h - 40));
-        let (w, h) = (1 + random.below(40), 1 + random.below(40));
+    // Rectangles, their least and greatest sides, and single cells.
+    let (rectangles, least, greatest, flipped) = match size.w.min(size.h) {
+        0..16 => (1, 4, 5, 2),
+        16..100 => (6, 4, 16, 16),
+        _ => (40, 1, 40, 300),
+    };
+    for _ in 0..rectangles {
+        let left = random.below(size.w - greatest);
+        let top = random.below(size.h - greatest);
+        let mut side = || least + random.below(greatest - least + 1);
+        let (w, h) = (side(), side());
         for y in top..top + h {
             cells[y * size.w + left..y * size.w + left + w].fill(1);
         }
     }
-    for _ in 0..300 {
+    for _ in 0..flipped {
         cells[random.below(size.cells())] ^= 1;
     }
     cells

@@ -2,7 +2,7 @@
 //! from it. All engines of a row work on the same bytes.
 
 use super::builds::BUILDS;
-use super::table::{asked, Engine, Pace, Pages, Row, Table, PAGE};
+use super::table::{asked, Engine, Lent, Pace, Row, Table, PAGE};
 use super::{pictures, rust, GREATEST};
 use std::cell::RefCell;
 use std::hint::black_box;
@@ -20,17 +20,15 @@ const PLACES: [(&str, usize); 2] = [
     ("image elsewhere", 32 * PAGE),
 ];
 
-/// Works on frame and image, with so many bytes between them.
+/// Works on frame and image.
 fn on_both<'a>(
     name: &'static str,
-    memory: &'a RefCell<Pages>,
-    between: usize,
+    memory: &'a RefCell<Lent>,
     put: impl Fn(&[u8], &mut [u8]) + 'a,
 ) -> Engine<'a> {
     Engine::new(name, move |read| {
         let mut memory = memory.borrow_mut();
-        let (frame, rest) = memory.bytes().split_at_mut(GREATEST.cells());
-        let image = &mut rest[between..];
+        let (frame, image) = memory.parts();
         if read {
             // What the engine before left there may not stand for this one's work.
             image.fill(7);
@@ -40,18 +38,18 @@ fn on_both<'a>(
     })
 }
 
-fn engines(memory: &RefCell<Pages>, between: usize) -> Vec<Engine<'_>> {
+fn engines(memory: &RefCell<Lent>) -> Vec<Engine<'_>> {
     let (w, h) = GREATEST.pair();
     let mut engines = Vec::new();
     for build in BUILDS {
-        engines.push(on_both(build.name, memory, between, move |frame, image| {
+        engines.push(on_both(build.name, memory, move |frame, image| {
             assert_eq!((build.put)(w, h, frame, image), 0, "putting");
         }));
     }
     let fill_and_copy = |frame: &[u8], image: &mut [u8]| rust::put(GREATEST, frame, image);
-    engines.push(on_both("fill and copy", memory, between, fill_and_copy));
+    engines.push(on_both("fill and copy", memory, fill_and_copy));
     let copy = |frame: &[u8], image: &mut [u8]| image[..frame.len()].copy_from_slice(frame);
-    engines.push(on_both("copy", memory, between, copy).copying());
+    engines.push(on_both("copy", memory, copy).copying());
     engines
 }
 
@@ -59,10 +57,8 @@ pub fn run() -> Vec<Row> {
     let mut table = Table::new("putting", GREATEST, PACE);
     let frame = pictures::frame(GREATEST);
     let row = |(name, between): (&str, usize)| {
-        let mut memory = Pages::new(frame.len() + between + GREATEST.grid());
-        memory.bytes()[..frame.len()].copy_from_slice(&frame);
-        let memory = RefCell::new(memory);
-        table.row(name.to_string(), engines(&memory, between))
+        let memory = RefCell::new(Lent::new(&frame, between, GREATEST.grid()));
+        table.row(name.to_string(), engines(&memory))
     };
     PLACES.into_iter().map(row).collect()
 }

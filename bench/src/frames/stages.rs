@@ -2,7 +2,7 @@
 
 use super::builds::BUILDS;
 use super::kernel::Kernel;
-use super::table::{asked, Engine, Pace, Pages, Row, Table};
+use super::table::{asked, Engine, Lent, Pace, Row, Table};
 use super::{pictures, rust, Size, GREATEST};
 use musqerpi_tests::frames::stage_word;
 use std::hint::black_box;
@@ -42,16 +42,17 @@ impl Case {
     }
 }
 
-/// Takes the case's grid into one of its own.
+/// Takes a copy of the case's grid into another.
 fn into_grid<'a>(
     name: &'static str,
     case: &'a Case,
     apply: impl Fn(&[u8], &mut [u8]) + 'a,
 ) -> Engine<'a> {
-    let mut to = Pages::new(case.size.grid());
+    let mut memory = Lent::apart(&case.from, case.size.grid());
     Engine::new(name, move |read| {
-        apply(&case.from, to.bytes());
-        asked(read, black_box(to.bytes()))
+        let (from, to) = memory.parts();
+        apply(from, to);
+        asked(read, black_box(to))
     })
 }
 

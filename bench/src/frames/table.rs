@@ -37,26 +37,47 @@ pub fn asked(read: bool, cells: &[u8]) -> Vec<u8> {
     }
 }
 
-/// Memory for writing that starts with a page, so that of two engines neither is the
-/// better for where its bytes stand.
-pub struct Pages {
+/// Memory that an engine works on: bytes that it reads, some between, and bytes that it
+/// writes. It starts with a page, so that of two engines neither is the better for where
+/// its bytes stand.
+pub struct Lent {
     memory: Vec<u8>,
     start: usize,
-    n: usize,
+    /// From the start to the bytes written.
+    far: usize,
+    read: usize,
+    written: usize,
 }
 
 pub const PAGE: usize = 4096;
 
-impl Pages {
-    /// So many bytes, none of which is a cell.
-    pub fn new(n: usize) -> Pages {
-        let memory = vec![7; n + PAGE];
+impl Lent {
+    /// What is written holds no cells.
+    pub fn new(read: &[u8], between: usize, written: usize) -> Lent {
+        let far = read.len() + between;
+        let mut memory = vec![7; far + written + PAGE];
         let start = memory.as_ptr().align_offset(PAGE);
-        Pages { memory, start, n }
+        memory[start..start + read.len()].copy_from_slice(read);
+        Lent {
+            memory,
+            start,
+            far,
+            read: read.len(),
+            written,
+        }
     }
 
-    pub fn bytes(&mut self) -> &mut [u8] {
-        &mut self.memory[self.start..][..self.n]
+    /// With as many bytes between as are written, or some more. Code that has to find out
+    /// whether the two overlap may take another way where they are close.
+    pub fn apart(read: &[u8], written: usize) -> Lent {
+        let far = (read.len() + written).next_multiple_of(64);
+        Lent::new(read, far - read.len(), written)
+    }
+
+    /// The bytes read, and those written.
+    pub fn parts(&mut self) -> (&[u8], &mut [u8]) {
+        let (before, after) = self.memory[self.start..].split_at_mut(self.far);
+        (&before[..self.read], &mut after[..self.written])
     }
 }
 
@@ -74,6 +95,8 @@ pub struct Table {
     pub size: Size,
     pace: Pace,
     what: &'static str,
+    /// The engines that are timed, all of them if there is no list.
+    only: Option<&'static [&'static str]>,
     begun: bool,
 }
 
@@ -103,13 +126,25 @@ impl Table {
             size,
             pace,
             what,
+            only: None,
             begun: false,
+        }
+    }
+
+    /// The same table with these engines timed; all of them are compared.
+    pub fn only(self, engines: &'static [&'static str]) -> Table {
+        Table {
+            only: Some(engines),
+            ..self
         }
     }
 
     /// Compares, measures and prints one row.
     pub fn row(&mut self, name: String, mut engines: Vec<Engine>) -> Row {
         assert_agreement(&format!("{}, {name}", self.size), &mut engines);
+        if let Some(only) = self.only {
+            engines.retain(|engine| only.contains(&engine.name));
+        }
         let names = engines.iter().map(|engine| engine.name).collect();
         let row = Row {
             name,
