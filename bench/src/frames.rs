@@ -1,12 +1,14 @@
 //! Frames: putting, single stages and whole operations at the greatest size, 240 by 240,
 //! and on small frames; the library beside OpenCV, leptonica, Rust and plain copies.
 
+use goals::Rows;
 use musqerpi_tests::frames::grid_of;
 use std::fmt;
 
 #[cfg(feature = "before")]
 mod before;
 mod builds;
+mod goals;
 mod kernel;
 mod operations;
 mod other;
@@ -58,8 +60,15 @@ pub fn run() {
     #[cfg(feature = "leptonica")]
     println!("{}, one bit a cell", other::leptonica::version());
     println!("the library's microseconds, and its time over the others'");
-    putting::run();
-    stages::run();
-    operations::run();
-    small::run();
+    let puts = putting::run();
+    let stages = stages::run();
+    let operations = operations::run();
+    let (small_stages, small_operations) = small::run();
+    goals::print(&Rows {
+        puts,
+        stages,
+        operations,
+        small_stages,
+        small_operations,
+    });
 }

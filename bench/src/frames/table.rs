@@ -102,6 +102,7 @@ pub struct Table {
 
 /// A row as it was measured; the first of its engines is the library.
 pub struct Row {
+    pub size: Size,
     pub name: String,
     engines: Vec<&'static str>,
     seconds: Vec<f64>,
@@ -147,6 +148,7 @@ impl Table {
         }
         let names = engines.iter().map(|engine| engine.name).collect();
         let row = Row {
+            size: self.size,
             name,
             engines: names,
             seconds: measure(&mut engines, self.pace),

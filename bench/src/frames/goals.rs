@@ -1,0 +1,62 @@
+//! The goals of frames, each with the worst of its rows in this run. A goal whose engine
+//! wasn't run is left out.
+
+use super::small::{LEAST, MIDDLE};
+use super::table::Row;
+use super::Size;
+use crate::print_goal;
+
+/// All rows of a run, by table; those of operations with the stages of their plans.
+pub struct Rows {
+    pub puts: Vec<Row>,
+    pub stages: Vec<Row>,
+    pub operations: Vec<(usize, Row)>,
+    pub small_stages: Vec<Row>,
+    pub small_operations: Vec<Row>,
+}
+
+/// Prints the goal with the greatest value, if there is one, and the row that has it.
+fn print_worst<'a>(
+    goal: &str,
+    limit: f64,
+    unit: &str,
+    values: impl Iterator<Item = (f64, &'a Row)>,
+) {
+    let Some((worst, row)) = values.max_by(|a, b| a.0.total_cmp(&b.0)) else {
+        return;
+    };
+    let found = format!("{worst:.3}{unit} at {}, {}", row.size, row.name);
+    print_goal(goal, found, worst <= limit);
+}
+
+/// The library's time over this engine's is at most the limit at each of the rows.
+fn at_most<'a>(what: &str, limit: f64, engine: &str, rows: impl Iterator<Item = &'a Row>) {
+    let goal = format!("{what} at most {limit:.1} of {engine}");
+    let ratios = rows.filter_map(|row| Some((row.over(engine)?, row)));
+    print_worst(&goal, limit, "", ratios);
+}
+
+/// The rows of one size.
+fn of(rows: &[Row], size: Size) -> impl Iterator<Item = &Row> {
+    let same = move |row: &&Row| row.size.pair() == size.pair();
+    rows.iter().filter(same)
+}
+
+pub fn print(rows: &Rows) {
+    println!("goals");
+    let operations = rows.operations.iter();
+    let all = operations.clone().map(|(_, row)| row);
+    at_most("operations", 0.5, "OpenCV stages", all);
+    let long = operations.filter(|(stages, _)| *stages >= 4);
+    let long = long.map(|(_, row)| row);
+    at_most("from 4 stages", 1.0, "lept. stages", long);
+    at_most("stages", 0.9, "OpenCV", rows.stages.iter());
+    let small = rows.small_operations.iter();
+    at_most("small operations", 1.0, "before", small);
+    let what = format!("stages, {MIDDLE},");
+    at_most(&what, 1.5, "before", of(&rows.small_stages, MIDDLE));
+    let times = of(&rows.small_stages, LEAST).map(|row| (row.microseconds(), row));
+    let goal = format!("stages, {LEAST}, at most 0.5 us");
+    print_worst(&goal, 0.5, " us", times);
+    at_most("putting", 1.2, "fill and copy", rows.puts.iter());
+}
