@@ -7,14 +7,13 @@ use native.Mathlib.Nat.{add-mul, mul-comm, mul-le-mul-right, le-trans, le-of-lt,
 use native.Mathlib.Omega.{arith}
 use lib.IntN.{ℤ, pos, negℤ, _-ℤ_, +ℤ-assoc}
 use lib.ListN.{length, getD}
-use borrow.Rule.Slice.PartMut.{midOf, mid-len}
 use borrow.Author.Tests.{lt-ltb, le-ltb, le-leb, lt-leb}
 use Rattle.plane.specs.Point.{_+ᵖ_}
 use Rattle.plane.proofs.Integer.{diff-ge, diff-lt}
 use Rattle.plane.proofs.Tests.{lt-or-le}
 use Rattle.grids.specs.Image.{valueAt, view}
 use Rattle.runs.specs.Runs.{Ranged, Laid, over}
-use Rattle.runs.proofs.Ranges.{getD-mid, ranged-ap, ranged-join}
+use Rattle.runs.proofs.Ranges.{ranged-ap, ranged-join}
 use Rattle.runs.proofs.FlatRows.{rows-apart}
 use Rattle.runs.proofs.Whole.{laid-is}
 use Rattle.runs.proofs.Values.{value-in, value-right, value-under, value-left, value-above}

@@ -1,6 +1,6 @@
 -- What the tests on the sizes of a cut say.
 use mathlib.Core.Path.{_≡_}
-use mathlib.Core.Bool.{Bool, true, false, _&&_}
+use mathlib.Core.Bool.{true, _&&_}
 use Prim.Native.Nat.{ℕ, _*_, _≤_}
 use lib.Dec.{leb, leb→le}
 use Rattle.plane.proofs.Tests.{T-and}
@@ -9,16 +9,6 @@ use Rattle.placing.specs.Placing.{sidesFit, cutFits}
 
 pub sides-say : (w h v u a b : ℕ) → sidesFit w h v u a b ≡ true → (w ≤ 65535) × (h ≤ 65535) × (v ≤ 65535) × (u ≤ 65535) × (a ≤ 65535) × (b ≤ 65535)
 sides-say w h v u a b e = six w 65535 h 65535 v 65535 u 65535 a 65535 b 65535 (holds e)
-
--- three tests, one after the other
-pub first-fails : (p q r : Bool) → p ≡ false → false ≡ (p && q && r)
-first-fails p q r e = rw e
-
-pub second-fails : (p q r : Bool) → p ≡ true → q ≡ false → false ≡ (p && q && r)
-second-fails p q r e f = rw (e, f)
-
-pub third : (p q r : Bool) → p ≡ true → q ≡ true → r ≡ (p && q && r)
-third p q r e f = rw (e, f)
 
 pub cut-says : (w h v u a b n k : ℕ) → cutFits w h v u a b n k ≡ true
     → ((w ≤ 65535) × (h ≤ 65535) × (v ≤ 65535) × (u ≤ 65535) × (a ≤ 65535) × (b ≤ 65535)) × (v * u ≤ n) × (w * h ≤ k)

@@ -7,7 +7,7 @@ use mathlib.Core.List.{List}
 use Prim.Native.Nat.{ℕ, _+_, _-_, _*_, _<_, _≤_}
 use lib.Dec.{leb, ltb}
 use lib.IntN.{pos, _-ℤ_}
-use lib.ListN.{length, getD}
+use lib.ListN.{length}
 use Rattle.plane.specs.Point.{_+ᵖ_}
 use Rattle.grids.specs.Image.{view, cells}
 use Rattle.runs.specs.Runs.{Written}

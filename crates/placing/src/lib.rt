@@ -5,3 +5,4 @@ mod sizes;
 
 pub use cuts::cut;
 pub use cuts::edge;
+pub use sizes::sides_fit;

@@ -3,7 +3,7 @@ ghost use mathlib.Core.Path.{_≡_};
 ghost use Rattle.placing.specs.Placing.{sidesFit, cutFits};
 
 // Whether columns, rows and distances are ones that a cut is made for.
-fn sides_fit(w: usize, h: usize, v: usize, u: usize, a: usize, b: usize) -> bool
+pub fn sides_fit(w: usize, h: usize, v: usize, u: usize, a: usize, b: usize) -> bool
     ensures { λ r. ⌜ r ≡ sidesFit w h v u a b ⌝ }
 {
     if 65535 < w {

@@ -57,22 +57,17 @@ module _ {A : Type 0} {z : A} where
   pub ranged-ap : {p e : ℕ} {f g : ℕ → A} {d d' : List A} → Ranged z p e f d d' → ((k : ℕ) → p ≤ k → k < e → f k ≡ g k) → Ranged z p e g d d'
   ranged-ap r q = record { len = r .len; at = λ k l u. r .at k l u ∙ q k l u; below = r .below; above = r .above }
 
-  -- nothing is stored, where all cells of the range are already right
-  pub ranged-same : (p e : ℕ) {g : ℕ → A} (d : List A) → ((k : ℕ) → p ≤ k → k < e → getD d k z ≡ g k) → Ranged z p e g d d
-  ranged-same p e d q = record { len = refl; at = q; below = λ k l. refl; above = λ k l. refl }
-
-  -- the same range changed twice
-  pub ranged-then : {p e : ℕ} {f g : ℕ → A} {d d' d'' : List A} → Ranged z p e f d d' → Ranged z p e g d' d'' → Ranged z p e g d d''
-  ranged-then r s = record { len = s .len ∙ r .len; at = s .at; below = λ k u. s .below k u ∙ r .below k u; above = λ k u. s .above k u ∙ r .above k u }
-
-  -- one range after the other
-  pub ranged-join : {p m e : ℕ} {f : ℕ → A} {d d' d'' : List A} → Ranged z p m f d d' → Ranged z m e f d' d'' → p ≤ m → m ≤ e → Ranged z p e f d d''
-  ranged-join {p} {m} {e} {f} {d} {d'} {d''} r s h i = record {
+  -- one range after the other, which may begin before the first one ends
+  pub ranged-lap : {p c m e : ℕ} {f : ℕ → A} {d d' d'' : List A} → Ranged z p m f d d' → Ranged z c e f d' d'' → p ≤ c → c ≤ m → m ≤ e → Ranged z p e f d d''
+  ranged-lap {p} {c} {m} {e} {f} {d} {d'} {d''} r s h g i = record {
     len = s .len ∙ r .len;
-    at = λ k l u. ⊎-elim (λ (v : k < m). s .below k v ∙ r .at k l v) (λ (v : m ≤ k). s .at k v u) (lt-or-le k m);
+    at = λ k l u. ⊎-elim (λ (v : k < c). s .below k v ∙ r .at k l (omega arith)) (λ (v : c ≤ k). s .at k v u) (lt-or-le k c);
     below = λ k u. s .below k (omega arith) ∙ r .below k u;
     above = λ k u. s .above k u ∙ r .above k (omega arith);
   }
+
+  pub ranged-join : {p m e : ℕ} {f : ℕ → A} {d d' d'' : List A} → Ranged z p m f d d' → Ranged z m e f d' d'' → p ≤ m → m ≤ e → Ranged z p e f d d''
+  ranged-join r s h i = ranged-lap r s h (omega arith) i
 
   -- a part, changed whole, and put back
   pub ranged-part : {a e : ℕ} {f : ℕ → A} {xs ys : List A} → a ≤ e → e ≤ length xs
@@ -102,59 +97,3 @@ module _ {A : Type 0} {z : A} where
       ranged-ap
       (ranged-part h g (subst (λ (i : ℕ). Ranged z 0 i (λ k. getD (midOf c (b - c) ss) k z) (midOf a (e - a) xs) ys) q r))
       (λ k lo hi. getD-mid z c (b - c) ss (k - a) (omega arith))
-
-  -- a part whose cells were changed one by one
-  pub ranged-cells : (F : ℕ → A → A) {a e : ℕ} {xs ys : List A} → a ≤ e → e ≤ length xs
-      → Ranged z 0 (length (midOf a (e - a) xs)) (λ k. F k (getD (midOf a (e - a) xs) k z)) (midOf a (e - a) xs) ys
-      → Ranged z a e (λ k. F (k - a) (getD xs k z)) xs (putMid a (e - a) xs ys)
-  ranged-cells F {a} {e} {xs} {ys} h g r =
-      ranged-ap (ranged-part h g r)
-      (λ k lo hi.
-      let q : a + (k - a) ≡ k = omega arith in
-      ap (λ (v : A). F (k - a) v) (getD-mid z a (e - a) xs (k - a) (omega arith) ∙ ap (λ (m : ℕ). getD xs m z) q))
-
-  -- a part joined with a part of another list
-  pub ranged-blend : (op : A → A → A) (c t : ℕ) (ss : List A) {a e : ℕ} {xs ys : List A} → a ≤ e → e ≤ length xs → e - a ≤ t
-      → Ranged z 0 (length (midOf a (e - a) xs)) (λ k. op (getD (midOf a (e - a) xs) k z) (getD (midOf c t ss) k z)) (midOf a (e - a) xs) ys
-      → Ranged z a e (λ k. op (getD xs k z) (getD ss (c + (k - a)) z)) xs (putMid a (e - a) xs ys)
-  ranged-blend op c t ss {a} {e} {xs} {ys} h g u r =
-      ranged-ap (ranged-cells (λ k v. op v (getD (midOf c t ss) k z)) h g r)
-      (λ k lo hi. ap (λ (v : A). op (getD xs k z) v) (getD-mid z c t ss (k - a) (omega arith)))
-
-  -- a part joined with two parts of another list
-  pub ranged-blend-two : (op : A → A → A) (c t c' t' : ℕ) (ss : List A) {a e : ℕ} {xs ys : List A} → a ≤ e → e ≤ length xs → e - a ≤ t → e - a ≤ t'
-      → Ranged z 0 (length (midOf a (e - a) xs)) (λ k. op (op (getD (midOf a (e - a) xs) k z) (getD (midOf c t ss) k z)) (getD (midOf c' t' ss) k z)) (midOf a (e - a) xs) ys
-      → Ranged z a e (λ k. op (op (getD xs k z) (getD ss (c + (k - a)) z)) (getD ss (c' + (k - a)) z)) xs (putMid a (e - a) xs ys)
-  ranged-blend-two op c t c' t' ss {a} {e} {xs} {ys} h g u u' r =
-      ranged-ap (ranged-cells (λ k v. op (op v (getD (midOf c t ss) k z)) (getD (midOf c' t' ss) k z)) h g r)
-      (λ k lo hi.
-      ap (λ (v : A). op (op (getD xs k z) v) (getD (midOf c' t' ss) (k - a) z)) (getD-mid z c t ss (k - a) (omega arith))
-      ∙ ap (λ (v : A). op (op (getD xs k z) (getD ss (c + (k - a)) z)) v) (getD-mid z c' t' ss (k - a) (omega arith)))
-
-  -- cells joined with readings, at another account of the readings
-  pub ranged-read : (op : A → A → A) {s s' : ℕ → A} {p e : ℕ} {d d' : List A}
-      → Ranged z p e (λ k. op (getD d k z) (s k)) d d' → ((k : ℕ) → p ≤ k → k < e → s k ≡ s' k) → Ranged z p e (λ k. op (getD d k z) (s' k)) d d'
-  ranged-read op {d = d} r q = ranged-ap r (λ k lo hi. ap (λ (w : A). op (getD d k z) w) (q k lo hi))
-
-  -- the same with two readings a cell
-  pub ranged-read-two : (op : A → A → A) {s s' t t' : ℕ → A} {p e : ℕ} {d d' : List A}
-      → Ranged z p e (λ k. op (op (getD d k z) (s k)) (t k)) d d' → ((k : ℕ) → p ≤ k → k < e → s k ≡ s' k) → ((k : ℕ) → p ≤ k → k < e → t k ≡ t' k)
-      → Ranged z p e (λ k. op (op (getD d k z) (s' k)) (t' k)) d d'
-  ranged-read-two op {s' = s'} {t = t} {d = d} r q q' =
-      ranged-ap r (λ k lo hi. ap (λ (w : A). op (op (getD d k z) w) (t k)) (q k lo hi) ∙ ap (λ (w : A). op (op (getD d k z) (s' k)) w) (q' k lo hi))
-
-  -- cells joined with readings, and then with others
-  pub ranged-twice : (op : A → A → A) (s t : ℕ → A) {p e : ℕ} {d d' d'' : List A}
-      → Ranged z p e (λ k. op (getD d k z) (s k)) d d' → Ranged z p e (λ k. op (getD d' k z) (t k)) d' d'' → Ranged z p e (λ k. op (op (getD d k z) (s k)) (t k)) d d''
-  ranged-twice op s t r u = ranged-then r (ranged-ap u (λ k lo hi. ap (λ (w : A). op w (t k)) (r .at k lo hi)))
-
-  -- a part joined with one value
-  pub ranged-blend-value : (op : A → A → A) (v : A) {a e : ℕ} {xs ys : List A} → a ≤ e → e ≤ length xs
-      → Ranged z 0 (length (midOf a (e - a) xs)) (λ k. op (getD (midOf a (e - a) xs) k z) v) (midOf a (e - a) xs) ys
-      → Ranged z a e (λ k. op (getD xs k z) v) xs (putMid a (e - a) xs ys)
-  ranged-blend-value op v h g r = ranged-cells (λ k w. op w v) h g r
-
-  -- each half of a range joined with its readings
-  pub ranged-halves : (op : A → A → A) (s : ℕ → A) {p m e : ℕ} {d d' d'' : List A} → p ≤ m → m ≤ e
-      → Ranged z p m (λ k. op (getD d k z) (s k)) d d' → Ranged z m e (λ k. op (getD d' k z) (s k)) d' d'' → Ranged z p e (λ k. op (getD d k z) (s k)) d d''
-  ranged-halves op s h i r t = ranged-join r (ranged-ap t (λ k lo hi. ap (λ (w : A). op w (s k)) (r .above k lo))) h i

@@ -24,8 +24,12 @@ pub record Laid (F : ℕ → ℕ → ℕ) (w h : ℕ) (d d′ : List ℕ) : Type
 abbrev pub over : ℕ → List ℕ → List ℕ → List ℕ
 over n g d = g ++ drop n d
 
--- the image d was written over with the grid g of n bytes where the test t holds, and left alone where it does not; r says which, and d′ is d then
-pub record Written (t : Bool) (n : ℕ) (g d : List ℕ) (r : Bool) (d′ : List ℕ) : Type 0 where
+-- work was done on the image d where the test t holds, and d was left alone where it does not; r says which, and d′ is d then
+pub record Fitted (t : Bool) (Work : Type 0) (d : List ℕ) (r : Bool) (d′ : List ℕ) : Type 0 where
   pub answer : r ≡ t
-  pub done : T t → d′ ≡ over n g d
+  pub done : T t → Work
   pub kept : T (not t) → d′ ≡ d
+
+-- the image d was written over with the grid g of n bytes where t holds
+abbrev pub Written : Bool → ℕ → List ℕ → List ℕ → Bool → List ℕ → Type 0
+Written t n g d r d′ = Fitted t (d′ ≡ over n g d) d r d′

@@ -2,7 +2,7 @@
 use borrow.Author.Needs.{needs}
 use native.Mathlib.Omega.{arith}
 use mathlib.Core.Path.{refl}
-use Prim.Native.Nat.{_+_, _*_, _≤_}
+use Prim.Native.Nat.{_+_, _*_}
 use native.Mathlib.Nat.{mul-comm, mul-le-mul-right}
 use Rattle.runs.proofs.Ranges.{ranged-part}
 use Rattle.placing.proofs.CutRows.{edge-after, seen-under, laid-rest, cut-is}

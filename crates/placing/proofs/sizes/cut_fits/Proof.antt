@@ -1,13 +1,12 @@
 -- The sides and distances first; where they fit, so do the products, and then the two images decide.
-use mathlib.Core.Path.{sym, _∙_}
 use Prim.Native.Nat.{_*_}
 use lib.Dec.{leb}
 use borrow.Author.Needs.{needs}
-use borrow.Author.Tests.{not-true, not-false, le-leb, lt-leb}
+use borrow.Author.Tests.{le-leb, lt-leb}
 use native.Mathlib.Omega.{arith}
-use Rattle.runs.proofs.Sizing.{product-le}
+use Rattle.runs.proofs.Sizing.{product-le, first-fails, second-fails, third, test-fails, test-holds}
 use Rattle.placing.specs.Placing.{sidesFit}
-use Rattle.placing.proofs.Sizing.{sides-say, first-fails, second-fails, third}
+use Rattle.placing.proofs.Sizing.{sides-say}
 use Rattle.placing.proofs.sizes.cut_fits.Statement.{statement}
 use Rattle.placing.proofs.sizes.cut_fits.Tie as tie
 
@@ -18,32 +17,32 @@ returns : tie.Need-returns
 returns c =
     let a = c .before .before .args in
     first-fails (sidesFit (a .w) (a .h) (a .v) (a .u) (a .a) (a .b)) (leb (a .v * a .u) (a .n)) (leb (a .w * a .h) (a .k))
-    (sym (c .before .sides-fit .ensures) ∙ not-true (c .before .sides-fit .result) (c .if1 .taken))
+    (test-fails (c .before .sides-fit .ensures) (c .if1 .taken))
 
 mul-if2 : tie.Need-mul-if2
 mul-if2 c =
     let a = c .before .before .args in
-    let s = sides-say (a .w) (a .h) (a .v) (a .u) (a .a) (a .b) (sym (c .before .sides-fit .ensures) ∙ not-false (c .before .sides-fit .result) (c .if1 .left)) in
+    let s = sides-say (a .w) (a .h) (a .v) (a .u) (a .a) (a .b) (test-holds (c .before .sides-fit .ensures) (c .if1 .left)) in
     omega (arith, product-le (a .v) (a .u) (s .2) (s .3))
 
 returns-2 : tie.Need-returns-2
 returns-2 c =
     let a = c .before .before .before .args in
     second-fails (sidesFit (a .w) (a .h) (a .v) (a .u) (a .a) (a .b)) (leb (a .v * a .u) (a .n)) (leb (a .w * a .h) (a .k))
-    (sym (c .before .before .sides-fit .ensures) ∙ not-false (c .before .before .sides-fit .result) (c .before .if1 .left))
+    (test-holds (c .before .before .sides-fit .ensures) (c .before .if1 .left))
     (lt-leb (a .v * a .u) (a .n) (omega arith))
 
 mul-result : tie.Need-mul-result
 mul-result c =
     let a = c .before .before .before .args in
-    let s = sides-say (a .w) (a .h) (a .v) (a .u) (a .a) (a .b) (sym (c .before .before .sides-fit .ensures) ∙ not-false (c .before .before .sides-fit .result) (c .before .if1 .left)) in
+    let s = sides-say (a .w) (a .h) (a .v) (a .u) (a .a) (a .b) (test-holds (c .before .before .sides-fit .ensures) (c .before .if1 .left)) in
     omega (arith, product-le (a .w) (a .h) (s .0) (s .1))
 
 returns-3 : tie.Need-returns-3
 returns-3 c =
     let a = c .before .before .before .args in
-    third (sidesFit (a .w) (a .h) (a .v) (a .u) (a .a) (a .b)) (leb (a .v * a .u) (a .n)) (leb (a .w * a .h) (a .k))
-    (sym (c .before .before .sides-fit .ensures) ∙ not-false (c .before .before .sides-fit .result) (c .before .if1 .left))
+    third (leb (a .w * a .h) (a .k))
+    (test-holds (c .before .before .sides-fit .ensures) (c .before .if1 .left))
     (le-leb (a .v * a .u) (a .n) (omega arith))
 
 pub cut-fits-spec : {M : Type 1} → statement M
