@@ -1,0 +1,4 @@
+pub mod PackBits
+pub mod Grouping
+pub mod PackRows
+pub mod Sizing

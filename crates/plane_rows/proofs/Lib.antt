@@ -1,0 +1,4 @@
+pub mod MaskColumns
+pub mod RowPasses
+pub mod Readings
+pub mod Rooms

@@ -1,0 +1,4 @@
+pub mod TrimBits
+pub mod Padding
+pub mod Bounding
+pub mod PlaneStage

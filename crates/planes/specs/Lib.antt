@@ -1,0 +1,3 @@
+pub mod MaskBits
+pub mod Bytes
+pub mod Planes

@@ -1,0 +1,103 @@
+-- Bit planes: a picture of zeros and ones, eight rows of cells to a byte. A plane of C columns and R rows has C + 2 bytes a row of bytes, of which the first two
+-- are pads, a row of bytes more above and below, and two bytes at its end; what is no cell of the picture holds the value outside it. So a cell up to two
+-- columns or eight rows away is always a cell of the plane, and no flat distance that a stage reads at wraps into another row's cells.
+use mathlib.Core.Path.{_≡_}
+use mathlib.Core.Bool.{Bool, _&&_}
+use mathlib.Core.List.{List, map}
+use Prim.Native.Nat.{ℕ, _+_, _*_, _/_, _%_, _<_, _≤_}
+use lib.Dec.{leb}
+use lib.IntN.{ℤ, pos, negsuc, _-ℤ_}
+use lib.ListN.{length, getD}
+use Rattle.plane.specs.Point.{Point}
+use Rattle.masks.specs.Mask.{maskPoints}
+use Rattle.grids.specs.Image.{view, cells}
+use Rattle.grids.specs.Frame.{over}
+use Rattle.rows.specs.Cells.{bit}
+use Rattle.runs.specs.Runs.{Fitted, Written}
+use Rattle.placing.specs.Placing.{cutOut, sidesFit}
+
+-- rows of bytes that R rows of cells take
+abbrev pub byteRows : ℕ → ℕ
+byteRows R = (R + 7) / 8
+
+-- rows of cells that the last of them has
+abbrev pub lastRows : ℕ → ℕ
+lastRows R = (R + 7) % 8 + 1
+
+-- bytes that a plane of C columns and R rows takes
+abbrev pub planeSize : ℕ → ℕ → ℕ
+planeSize C R = (byteRows R + 2) * (C + 2) + 2
+
+-- column x of row y of the bytes p, s bytes a row of bytes, counted from the plane's first byte and its lowest bit
+unfoldable pub seen : ℕ → List ℕ → ℕ → ℕ → ℕ
+seen s p x y = bit (getD p (y / 8 * s + x) 0) (y % 8)
+
+-- p is a plane of C columns and R rows that shows the picture f, in every bit: the cell (0, 0) is column 2 of row 8
+pub record Shows (C R : ℕ) (f : Point → ℕ) (p : List ℕ) : Type 0 where
+  pub size : planeSize C R ≤ length p
+  pub at : (x y : ℕ) → x < C + 4 → y < byteRows R * 8 + 16 → seen (C + 2) p x y ≡ f (pos x -ℤ pos 2, pos y -ℤ pos 8)
+
+-- bytes past the plane, and how many there are, are as they were
+pub record Kept (C R : ℕ) (d d′ : List ℕ) : Type 0 where
+  pub len : length d′ ≡ length d
+  pub past : (k : ℕ) → planeSize C R ≤ k → getD d′ k 0 ≡ getD d k 0
+
+-- columns and rows of which planes are made, and the value v outside
+abbrev pub planeSides : ℕ → ℕ → ℕ → Bool
+planeSides v C R = leb 1 R && leb C 65535 && leb R 65535 && leb v 1
+
+-- ---- packing
+
+-- what a plane has room for: the lowest bit of each cell, which is all of a cell that is 0 or 1
+abbrev pub lowBits : List ℕ → List ℕ
+lowBits f = map (λ c. c % 2) f
+
+-- W columns and H rows in n bytes go into a plane of C columns and R rows in k bytes
+abbrev pub packFits : ℕ → ℕ → ℕ → ℕ → ℕ → ℕ → ℕ → Bool
+packFits v W H C R n k = planeSides v C R && leb W C && leb H R && leb (W * H) n && leb (planeSize C R) k
+
+-- a frame f of W columns and H rows, with v around it, was packed into d, which then is d′
+pub record FramePacked (v W H C R : ℕ) (f d d′ : List ℕ) : Type 0 where
+  pub kept : Kept C R d d′
+  pub shown : Shows C R (view v W H (lowBits f)) d′
+
+abbrev pub Packed : ℕ → ℕ → ℕ → ℕ → ℕ → List ℕ → List ℕ → Bool → List ℕ → Type 0
+Packed v W H C R f d r d′ = Fitted (packFits v W H C R (length f) (length d)) (FramePacked v W H C R f d d′) d r d′
+
+-- ---- the stage
+
+-- the picture f after the stage of the mask m, by erosion or by dilation, cut to C columns and R rows, with v outside them
+unfoldable pub afterStage : Bool → ℕ → ℕ → ℕ → ℕ → (Point → ℕ) → Point → ℕ
+afterStage erode v C R m f = view v C R (cells C R (over erode (maskPoints m) f))
+
+-- a plane of C columns and R rows is read in n bytes and written in k
+abbrev pub stageFits : ℕ → ℕ → ℕ → ℕ → ℕ → Bool
+stageFits v C R n k = planeSides v C R && leb (planeSize C R) n && leb (planeSize C R) k
+
+-- a plane p was taken through the stage of the mask m, with v outside, into d, which then is d′: whatever p shows, d′ shows after the stage
+pub record PlaneTaken (erode : Bool) (v C R m : ℕ) (p d d′ : List ℕ) : Type 0 where
+  pub kept : Kept C R d d′
+  pub shown : (f : Point → ℕ) → Shows C R f p → Shows C R (afterStage erode v C R m f) d′
+
+abbrev pub PlaneStaged : Bool → ℕ → ℕ → ℕ → ℕ → List ℕ → List ℕ → Bool → List ℕ → Type 0
+PlaneStaged erode v C R m p d r d′ = Fitted (stageFits v C R (length p) (length d)) (PlaneTaken erode v C R m p d d′) d r d′
+
+-- ---- unpacking
+
+-- the cell of a plane p of C columns that stands at (x, y)
+unfoldable pub heldAt : ℕ → List ℕ → ℤ → ℤ → ℕ
+heldAt C p (pos x) (pos y) = seen (C + 2) p (x + 2) (y + 8)
+heldAt C p (pos x) (negsuc y) = 0
+heldAt C p (negsuc x) y = 0
+
+-- the cells of a plane p of C columns and R rows, row 0 first
+abbrev pub planeCells : ℕ → ℕ → List ℕ → List ℕ
+planeCells C R p = cells C R (λ q. heldAt C p (q .0) (q .1))
+
+-- W columns and H rows are cut out of a plane in n bytes into k bytes, at the distances a − 15 and b − 15
+abbrev pub unpackFits : ℕ → ℕ → ℕ → ℕ → ℕ → ℕ → ℕ → ℕ → Bool
+unpackFits W H C R a b n k = sidesFit W H C R a b && leb (planeSize C R) n && leb (W * H) k
+
+-- the cut of the plane's cells was written to d, which then is d′
+abbrev pub Unpacked : ℕ → ℕ → ℕ → ℕ → ℕ → ℕ → ℕ → List ℕ → List ℕ → Bool → List ℕ → Type 0
+Unpacked v W H C R a b p d r d′ = Written (unpackFits W H C R a b (length p) (length d)) (W * H) (cutOut v W H C R a b (planeCells C R p)) d r d′
