@@ -1,5 +1,5 @@
-pub mod Alternating
 pub mod Accepted
+pub mod Alternating
 pub mod Ending
 pub mod Reading
 pub mod Working

@@ -1,52 +1,36 @@
--- An operation that no ground refuses: from the frame that is put to the part that will be handed back.
+-- An operation that no ground refuses: from the frame that is packed to the part that will be handed back.
 use mathlib.Core.Path.{_≡_, refl, sym, _∙_, ap, subst}
-use mathlib.Core.Bool.{Bool, false}
+use mathlib.Core.Bool.{Bool, false, not}
 use mathlib.Core.List.{List, _++_}
-use Prim.Native.Nat.{ℕ, _+_, _*_, _%_, _≤_, zero-le}
+use Prim.Native.Nat.{ℕ, _+_, _*_, _%_, _≤_}
 use native.Mathlib.Omega.{arith}
 use lib.Dec.{T, eqb, nltb→le}
-use lib.ListN.{length, getD, take, drop}
-use borrow.Author.Tests.{le-leb}
-use Rattle.plane.proofs.Tests.{T-false, not-or}
+use lib.ListN.{length, getD, drop}
+use borrow.Author.Tests.{eqb-true}
+use Rattle.plane.specs.Point.{Point}
+use Rattle.plane.proofs.Tests.{T-false, T-true, not-or, un-not}
 use Rattle.words.specs.Ground.{firstOf, stated, result}
 use Rattle.words.specs.Word.{placeX, placeY}
 use Rattle.words.specs.declared.Answer.{Answer}
 use Rattle.words.proofs.Refusals.{Clear, clear, unclear, clear-first, clear-last}
 use Rattle.shapes.specs.Plan.{planMasks, planTests, planOffset}
+use Rattle.grids.specs.Image.{view}
 use Rattle.grids.specs.Frame.{free, badSize, badCell, gridSize, shortImage}
-use Rattle.grids.specs.Grid.{put, written, putTests, workTests, FramePut}
-use Rattle.grids.proofs.Putting.{frame-binary, put-size}
-use Rattle.grids.proofs.Stage.{bytes-binary, cells-binary}
+use Rattle.grids.specs.Grid.{put, workTests}
+use Rattle.grids.proofs.Putting.{put-whole}
 use Rattle.frames.proofs.Sides.{sides}
-use Rattle.placing.specs.Placing.{cutOut, cutFits}
+use Rattle.planes.specs.Planes.{Shows, packFits, FramePacked}
+use Rattle.planes.proofs.OnGrids.{low-bits, grid-pack, shown-cut}
 use Rattle.cleaning.specs.declared.Operation.{Operation}
-use Rattle.cleaning.specs.declared.Operation.the-variants.{Dilation, Erosion, Opening, Closing}
 use Rattle.cleaning.specs.Operation.{lastGrid, inTurn}
 use Rattle.cleaning.specs.Cleaning.{resultImage, part, operationTests, Cleaned}
 use Rattle.cleaning.proofs.Kept.{turn-length}
 use Rattle.cleaning.proofs.Starts.{over-length, over-past, frame-in-grid, hand, hand-start}
-use Rattle.cleaner.specs.Turns.{standingImage, Ready, Ended}
+use Rattle.cleaner.specs.Turns.{standingImage, Shown, Room, Past, Ended}
 use Rattle.cleaner.specs.Cutting.{ahead, CutAway}
 use Rattle.cleaner.proofs.Accepted.{place-small}
-use Rattle.cleaner.proofs.Alternating.{either, written-size, written-past, written-grid, same-either, standing-sizes, standing-pasts}
-use Rattle.cleaner.proofs.Ending.{last-size, same-of}
+use Rattle.cleaner.proofs.Alternating.{either, kept-past, past-same, past-then, room-past, same-either, same-of}
 use Rattle.cleaner.proofs.Reading.{cut-turn}
-
--- ---- sizes that the cut is made for
-
-ahead-small : (op : Operation) (f : ℕ) → f ≤ 30 → ahead op f ≤ 65535
-ahead-small Dilation f h = omega arith
-ahead-small Erosion f h = omega arith
-ahead-small Opening f h = omega arith
-ahead-small Closing f h = omega arith
-
-cut-fits : (W H a b : ℕ) {n k : ℕ} → a ≤ 65535 → b ≤ 65535 → badSize W H ≡ false → gridSize W H ≤ n → gridSize W H ≤ k → T (cutFits W H (W + 15) (H + 15) a b n k)
-cut-fits W H a b {n} {k} p q s g h =
-    let l = sides W H s in
-    let m = frame-in-grid W H in
-    rw (le-leb W 65535 (omega arith), le-leb H 65535 (omega arith), le-leb (W + 15) 65535 (omega arith), le-leb (H + 15) 65535 (omega arith), le-leb a 65535 p, le-leb b 65535 q, le-leb (gridSize W H) n g, le-leb (W * H) k (omega arith)) tt
-
--- ---- step by step
 
 module _ (plan : List ℕ) (W H : ℕ) (f i j : List ℕ) (z : firstOf (operationTests plan W H f i j) ≡ 0) where
   all-clear : Clear (operationTests plan W H f i j)
@@ -64,83 +48,76 @@ module _ (plan : List ℕ) (W H : ℕ) (f i j : List ℕ) (z : firstOf (operatio
   sides-pass = T-false (badSize W H) (work-clear .0)
 
   -- both images are long enough
-  pub room : (gridSize W H ≤ length i) × (gridSize W H ≤ length j)
+  room : (gridSize W H ≤ length i) × (gridSize W H ≤ length j)
   unfolding workTests
   room =
       let u = not-or (shortImage W H i) (shortImage W H j) .0 (work-clear .1 .1 .1 .0) in
       (nltb→le (length i) (gridSize W H) (u .0), nltb→le (length j) (gridSize W H) (u .1))
 
-  put-accepted : firstOf (putTests W H f i) ≡ 0
-  unfolding workTests putTests
-  put-accepted =
-      unclear (putTests W H f i) (work-clear .0, (work-clear .1 .0, (work-clear .1 .1 .0, (not-or (shortImage W H i) (shortImage W H j) .0 (work-clear .1 .1 .1 .0) .0, tt))))
+  -- the frame has all its cells, and none is above 1
+  cells-all : W * H ≤ length f
+  unfolding workTests
+  cells-all = let e = eqb-true (length f) (W * H) (T-true (eqb (length f) (W * H)) (un-not (eqb (length f) (W * H)) (work-clear .1 .0))) in omega arith
 
-  -- no cell of the grid that the frame is put into is above 1
-  put-clean : badCell (put W H f) ≡ false
-  unfolding put workTests
-  put-clean = T-false (badCell (put W H f)) (cells-binary (W + 15) (H + 15) _ (frame-binary W H f (λ k. bytes-binary 0 zero-le f (work-clear .1 .1 .0) k)))
+  cells-clean : T (not (badCell f))
+  unfolding workTests
+  cells-clean = work-clear .1 .1 .0
 
-  -- the frame is put
-  module _ {r : Answer} {i₁ : List ℕ} (p : FramePut W H f i r i₁) where
-    first-is : i₁ ≡ written W H (put W H f) i
-    first-is = p .done put-accepted .image
+  -- so the frame goes into the plane in the first image
+  pub packs : T (packFits free W H (W + 15) (H + 15) (length f) (length i))
+  packs = let s = sides W H sides-pass in grid-pack W H (s .0) (s .1) W H (length f) (length i) (omega arith) (omega arith) cells-all (room .0)
 
-    first-grid : take (gridSize W H) i₁ ≡ put W H f
-    first-grid = ap (take (gridSize W H)) first-is ∙ written-grid W H (put W H f) i (put-size W H f) (room .0)
+  pub has-room : Room W H i j
+  has-room = record { sides = sides-pass; first = room .0; second = room .1 }
 
-    first-long : length i₁ ≡ length i
-    first-long = ap length first-is ∙ written-size W H (put W H f) i (put-size W H f) (room .0)
+  -- the frame is packed: the plane shows the grid that the frame is put into
+  module _ {i₁ : List ℕ} (p : FramePacked free W H (W + 15) (H + 15) f i i₁) where
+    first-past : Past W H i i₁
+    first-past = kept-past W H (p .kept)
 
-    first-past : drop (gridSize W H) i₁ ≡ drop (gridSize W H) i
-    first-past = ap (drop (gridSize W H)) first-is ∙ written-past W H (put W H f) i (put-size W H f) (room .0)
+    pub packed-room : Room W H i₁ j
+    packed-room = room-past has-room first-past past-same
 
-    pub put-ready : Ready W H 0 i₁ j
-    put-ready = record { sides = sides-pass; cells = ap badCell first-grid ∙ put-clean; first = omega (arith, first-long, room .0); second = room .1 }
+    first-shown : Shown W H 0 (put W H f) i₁ j
+    first-shown = subst (λ (g : Point → ℕ). Shows (W + 15) (H + 15) g i₁) (ap (λ l. view free W H l) (low-bits f cells-clean) ∙ sym (put-whole W H f)) (p .shown)
 
-    -- the stages were run: the last grid stands in its image, and both images keep their lengths and what is past the grid
+    -- the stages were run: the last plane shows the last grid, and both images keep their lengths and what is past the grid
     module _ {op : Operation} {n : ℕ} {i₂ j₂ : List ℕ} (e : Ended op plan W H i₁ j n i₂ j₂) where
       abbrev last : List ℕ
-      last = lastGrid op W H (planMasks plan) (take (gridSize W H) i₁)
+      last = lastGrid op W H (planMasks plan) (put W H f)
 
       abbrev even : Bool
       even = eqb (n % 2) 0
 
-      whole : length last ≡ gridSize W H
-      whole = last-size op W H (planMasks plan) (take (gridSize W H) i₁) (ap length first-grid ∙ put-size W H f)
+      first-then : Past W H i i₂
+      first-then = past-then first-past (e .first)
 
-      long : gridSize W H ≤ length i₁
-      long = omega (arith, first-long, room .0)
+      pub ended-room : Room W H i₂ j₂
+      ended-room = room-past packed-room (e .first) (e .second)
 
       sizes : (length i₂ ≡ length i) × (length j₂ ≡ length j)
-      sizes = let s = standing-sizes (e .grid) whole long (room .1) in (s .0 ∙ first-long, s .1)
+      sizes = (first-then .size, e .second .size)
 
       pasts : (drop (gridSize W H) i₂ ≡ drop (gridSize W H) i) × (drop (gridSize W H) j₂ ≡ drop (gridSize W H) j)
-      pasts = let s = standing-pasts (e .grid) whole long (room .1) in (s .0 ∙ first-past, s .1)
-
-      -- both images, whichever is read
-      stands-long : gridSize W H ≤ length (standingImage n i₂ j₂)
-      stands-long = subst (λ l. gridSize W H ≤ l) (sym (same-of length even i j i₂ j₂ (sizes .0) (sizes .1))) (either even (gridSize W H) i j (room .0) (room .1))
+      pasts = (first-then .rest, e .second .rest)
 
       result-long : gridSize W H ≤ length (resultImage n i₂ j₂)
-      result-long = subst (λ l. gridSize W H ≤ l) (sym (same-of length even j i j₂ i₂ (sizes .1) (sizes .0))) (either even (gridSize W H) j i (room .1) (room .0))
+      result-long = either even (gridSize W H) j₂ i₂ (ended-room .second) (ended-room .first)
 
       -- the result was cut
-      module _ {b : Bool} {i₃ j₃ : List ℕ} (c : CutAway op (getD plan 1 0) W H n i₂ j₂ b i₃ j₃) where
+      module _ {i₃ j₃ : List ℕ} (c : CutAway op (getD plan 1 0) W H n i₂ j₂ i₃ j₃) where
         abbrev turned : List ℕ
         turned = inTurn op W H f (planOffset plan) (planMasks plan)
 
         small : (placeX (getD plan 1 0) ≤ 30) × (placeY (getD plan 1 0) ≤ 30)
         small = place-small plan plan-accepted
 
-        fits : T (cutFits W H (W + 15) (H + 15) (ahead op (placeX (getD plan 1 0))) (ahead op (placeY (getD plan 1 0))) (length (standingImage n i₂ j₂)) (length (resultImage n i₂ j₂)))
-        fits = cut-fits W H _ _ (ahead-small op (placeX (getD plan 1 0)) (small .0)) (ahead-small op (placeY (getD plan 1 0)) (small .1)) sides-pass stands-long result-long
-
         cut-is : resultImage n i₃ j₃ ≡ turned ++ drop (W * H) (resultImage n i₂ j₂)
         cut-is =
-            c .to .done fits
+            c .to
             ∙ ap (λ l. l ++ drop (W * H) (resultImage n i₂ j₂))
-            (ap (cutOut free W H (W + 15) (H + 15) (ahead op (placeX (getD plan 1 0))) (ahead op (placeY (getD plan 1 0)))) (e .grid .here)
-            ∙ cut-turn op plan W H f last (drop (gridSize W H) (standingImage n i₁ j)) (getD plan 1 0) refl (small .0) (small .1) (ap (lastGrid op W H (planMasks plan)) first-grid) (omega (arith, whole)))
+            (shown-cut free (W + 15) (H + 15) last (standingImage n i₂ j₂) (e .shown (put W H f) first-shown) W H (ahead op (placeX (getD plan 1 0))) (ahead op (placeY (getD plan 1 0)))
+            ∙ cut-turn op plan W H f last (getD plan 1 0) refl (small .0) (small .1) refl)
 
         size : length turned ≡ W * H
         size = turn-length op W H f (planOffset plan) (planMasks plan)

@@ -1,6 +1,6 @@
-// The four operations on a plan list, a frame and two work images: dilation, erosion, opening and closing. Each tries all grounds before it writes a byte, puts
-// the frame into the first image, runs one single stage after the other with the images taking turns (`turns`), and cuts the result from the last grid into
-// the other image (`results`).
+// The four operations on a plan list, a frame and two work images: dilation, erosion, opening and closing. Each tries all grounds before it writes a byte, packs
+// the frame into a plane in the first image, runs one single stage after the other with the images taking turns (`turns`), and cuts the result from the last
+// plane into the other image (`results`).
 mod results;
 mod turns;
 
@@ -38,10 +38,11 @@ fn clean(
     if let Answer::Refused(ground) = tested {
         return Answer::Refused(ground);
     }
-    framing::put(w, h, frame, first);
+    plane_pack::pack(frame, first, w, h, w + 15, h + 15, 0);
     let n = turns::stages(op, plan, w, h, first, second);
     results::cut(op, plan[1], n, w, h, first, second);
-    Answer::Done(n as u32)
+    let run = n as u32;
+    Answer::Done(run)
 }
 
 // Dilation by the plan's points.

@@ -1,11 +1,10 @@
-// The result is cut from the last grid into the image that the grid does not stand in, by the plan's offset.
+// The result is cut from the last plane into the image that the plane does not stand in, by the plan's offset.
 use cleaning::Operation;
 ghost use mathlib.Core.Path.{_≡_};
-ghost use mathlib.Core.Bool.{false};
 ghost use Prim.Native.Nat.{_≤_};
 ghost use Rattle.words.specs.Word.{placeX, placeY};
-ghost use Rattle.grids.specs.Frame.{badSize};
 ghost use Rattle.cleaner.specs.Cutting.{ahead as aheadOf, CutAway};
+ghost use Rattle.cleaner.specs.Turns.{Room};
 
 // 15 more than what is added to a coordinate of the result to find the cell that is read, from the place's field for that coordinate.
 fn ahead(op: Operation, field: u32) -> usize
@@ -30,14 +29,15 @@ pub(crate) fn cut(
     h: usize,
     first: &mut [u8],
     second: &mut [u8],
-) -> bool
-    requires { ⌜ (placeX place ≤ 30) × (placeY place ≤ 30) × (badSize w h ≡ false) ⌝ }
-    ensures { λ r. ⌜ CutAway op place w h t (now (first .entry)) (now (second .entry)) r (now (first .exit)) (now (second .exit)) ⌝ }
+)
+    requires { ⌜ (placeX place ≤ 30) × (placeY place ≤ 30) × Room w h (now first) (now second) ⌝ }
+    ensures { λ _. ⌜ CutAway op place w h t (now (first .entry)) (now (second .entry)) (now (first .exit)) (now (second .exit)) ⌝ }
 {
     let a = ahead(op, place % 256);
     let b = ahead(op, place / 256 % 256);
     if t % 2 == 0 {
-        return placing::cut(first, second, w, h, w + 15, h + 15, a, b, 0);
+        plane_unpack::unpack(first, second, w, h, w + 15, h + 15, a, b, 0);
+        return;
     }
-    placing::cut(second, first, w, h, w + 15, h + 15, a, b, 0)
+    plane_unpack::unpack(second, first, w, h, w + 15, h + 15, a, b, 0);
 }

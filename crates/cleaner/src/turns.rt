@@ -1,28 +1,21 @@
-// The work images take turns: each single stage reads the image in which the grid stands and writes the other.
+// The work images take turns: each single stage reads the image in which the plane stands and writes the other.
 use cleaning::Operation;
-use words::Answer;
 ghost use mathlib.Core.Path.{_≡_};
 ghost use Prim.Native.Nat.{_≤_};
 ghost use Rattle.words.specs.Ground.{firstOf};
 ghost use Rattle.shapes.specs.Plan.{planTests};
-ghost use Rattle.cleaner.specs.Turns.{Turned, Ready, Passed, Ended};
+ghost use Rattle.cleaner.specs.Turns.{Room, Turned, Passed, Ended};
 
 // One single stage, after t others.
-fn turn(
-    word: u32,
-    erode: bool,
-    t: usize,
-    w: usize,
-    h: usize,
-    first: &mut [u8],
-    second: &mut [u8],
-) -> Answer
-    ensures { λ r. ⌜ Turned erode word w h t (now (first .entry)) (now (second .entry)) r (now (first .exit)) (now (second .exit)) ⌝ }
+fn turn(mask: u16, erode: bool, t: usize, w: usize, h: usize, first: &mut [u8], second: &mut [u8])
+    requires { ⌜ Room w h (now first) (now second) ⌝ }
+    ensures { λ _. ⌜ Turned erode mask w h t (now (first .entry)) (now (second .entry)) (now (first .exit)) (now (second .exit)) ⌝ }
 {
     if t % 2 == 0 {
-        return framing::stage(word, erode, w, h, first, second);
+        plane_stage::stage(first, second, w + 15, h + 15, mask, 0, erode);
+        return;
     }
-    framing::stage(word, erode, w, h, second, first)
+    plane_stage::stage(second, first, w + 15, h + 15, mask, 0, erode);
 }
 
 // All stages of a plan, in order, after t others. Returns how many have then been run.
@@ -35,20 +28,20 @@ fn pass(
     first: &mut [u8],
     second: &mut [u8],
 ) -> usize
-    requires { ⌜ (firstOf (planTests (now plan)) ≡ 0) × Ready w h t (now first) (now second) × (t ≤ 30) ⌝ }
+    requires { ⌜ (firstOf (planTests (now plan)) ≡ 0) × Room w h (now first) (now second) × (t ≤ 30) ⌝ }
     ensures { λ r. ⌜ Passed erode (now (plan .entry)) w h t (now (first .entry)) (now (second .entry)) r (now (first .exit)) (now (second .exit)) ⌝ }
 {
     let mut n = t;
     let mut k: usize = 2;
     while k < plan.len() {
-        turn(plan[k], erode, n, w, h, first, second);
+        turn((plan[k] % 512) as u16, erode, n, w, h, first, second);
         n += 1;
         k += 1;
     }
     n
 }
 
-// The stages of an operation, on the grid in the first image: once, or for opening and closing by one kind and then all of them again by the other.
+// The stages of an operation, on the plane in the first image: once, or for opening and closing by one kind and then all of them again by the other.
 pub(crate) fn stages(
     op: Operation,
     plan: &[u32],
@@ -57,7 +50,7 @@ pub(crate) fn stages(
     first: &mut [u8],
     second: &mut [u8],
 ) -> usize
-    requires { ⌜ (firstOf (planTests (now plan)) ≡ 0) × Ready w h 0 (now first) (now second) ⌝ }
+    requires { ⌜ (firstOf (planTests (now plan)) ≡ 0) × Room w h (now first) (now second) ⌝ }
     ensures { λ r. ⌜ Ended op (now (plan .entry)) w h (now (first .entry)) (now (second .entry)) r (now (first .exit)) (now (second .exit)) ⌝ }
 {
     match op {

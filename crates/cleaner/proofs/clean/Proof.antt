@@ -1,13 +1,19 @@
--- A refusal is the answer, and nothing was written; else the frame is put, the stages are run, and the result is cut.
-use borrow.Author.Needs.{needs}
-use native.Mathlib.Omega.{arith}
+-- A refusal is the answer, and nothing was written; else the frame is packed, the stages are run, and the result is cut.
 use mathlib.Core.Path.{_≡_, refl}
+use Prim.Native.Nat.{_+_}
+use lib.Dec.{T}
+use lib.ListN.{length}
 use Rattle.words.specs.Ground.{firstOf}
 use Rattle.words.proofs.Tested.{no-refusal}
 use Rattle.cleaning.specs.Cleaning.{operationTests}
 use Rattle.frames.proofs.Tested.{refused-call}
+use Rattle.frames.proofs.Sides.{sides}
+use Rattle.grids.specs.Frame.{free}
+use Rattle.planes.specs.Planes.{packFits}
 use Rattle.cleaner.proofs.Accepted.{plan-length, place-small, few-stages}
-use Rattle.cleaner.proofs.Working.{plan-accepted, sides-pass, put-ready, ran}
+use Rattle.cleaner.proofs.Working.{plan-accepted, sides-pass, packs, packed-room, ended-room, ran}
+use native.Mathlib.Omega.{arith}
+use borrow.Author.Needs.{needs}
 use Rattle.cleaner.proofs.clean.Statement.{statement}
 use Rattle.cleaner.proofs.clean.Tie as tie
 
@@ -17,6 +23,12 @@ start c = c .before .before .before .before .before .before .before .before .bef
 -- no ground holds, once the grounds are tried
 passed : (c : tie.After-enum-told) → let a = start c .args in firstOf (operationTests (a .plan .now) (a .w) (a .h) (a .frame .now) (a .first .now) (a .second .now)) ≡ 0
 passed c = let t = c .before .before .refused in no-refusal (t .result) _ (c .before .match .keys2) (t .ensures)
+
+-- so the frame goes into the plane
+fits : (c : tie.After-enum-told) → let a = start c .args in T (packFits free (a .w) (a .h) (a .w + 15) (a .h + 15) (length (a .frame .now)) (length (a .first .now)))
+fits c =
+    let a = start c .args in
+    packs (a .plan .now) (a .w) (a .h) (a .frame .now) (a .first .now) (a .second .now) (passed c)
 
 refused-requires : tie.Need-refused-requires
 refused-requires c κs = search needs
@@ -39,16 +51,28 @@ returns c =
 enum-told : tie.Need-enum-told
 enum-told c = search needs
 
-put-requires : tie.Need-put-requires
-put-requires c κs = search needs
+add-pack : tie.Need-add-pack
+add-pack c =
+    let k = c .before in
+    let a = start k .args in
+    let s = sides (a .w) (a .h) (sides-pass (a .plan .now) (a .w) (a .h) (a .frame .now) (a .first .now) (a .second .now) (passed k)) in
+    record { fits = omega arith }
+
+add-pack-2 : tie.Need-add-pack-2
+add-pack-2 c =
+    let k = c .before in
+    let a = start k .args in
+    let s = sides (a .w) (a .h) (sides-pass (a .plan .now) (a .w) (a .h) (a .frame .now) (a .first .now) (a .second .now) (passed k)) in
+    record { fits = omega arith }
+
+pack-requires : tie.Need-pack-requires
+pack-requires c κs = search needs
 
 stages-requires : tie.Need-stages-requires
 stages-requires c κs =
     let k = c .before .before .before .before .before .before in
-    let a = start k .args in (
-      plan-accepted (a .plan .now) (a .w) (a .h) (a .frame .now) (a .first .now) (a .second .now) (passed k),
-      put-ready (a .plan .now) (a .w) (a .h) (a .frame .now) (a .first .now) (a .second .now) (passed k) (c .before .before .before .before .put .ensures),
-    )
+    let a = start k .args in
+    (plan-accepted (a .plan .now) (a .w) (a .h) (a .frame .now) (a .first .now) (a .second .now) (passed k), packed-room (a .plan .now) (a .w) (a .h) (a .frame .now) (a .first .now) (a .second .now) (passed k) (c .before .before .before .before .pack .ensures .done (fits k)))
 
 shared-slice-read-cut : tie.Need-shared-slice-read-cut
 shared-slice-read-cut c =
@@ -62,10 +86,10 @@ cut-requires c κs =
     let k = c .before .before .before .before .before .before .before .before .before .before .before .before .before .before in
     let a = start k .args in
     let p = place-small (a .plan .now) (plan-accepted (a .plan .now) (a .w) (a .h) (a .frame .now) (a .first .now) (a .second .now) (passed k)) in
-    (p .0, p .1, sides-pass (a .plan .now) (a .w) (a .h) (a .frame .now) (a .first .now) (a .second .now) (passed k))
+    (p .0, p .1, ended-room (a .plan .now) (a .w) (a .h) (a .frame .now) (a .first .now) (a .second .now) (passed k) (c .before .before .before .before .before .before .before .before .before .before .before .before .pack .ensures .done (fits k)) (c .before .before .before .before .before .before .before .stages .ensures))
 
-cast-t24 : tie.Need-cast-t24
-cast-t24 c =
+cast-run : tie.Need-cast-run
+cast-run c =
     let k = c .before .before .before .before .before .before .before .before .before .before .before .before .before .before .before .before .before .before .before in
     let a = start k .args in
     let l = few-stages (a .plan .now) (plan-accepted (a .plan .now) (a .w) (a .h) (a .frame .now) (a .first .now) (a .second .now) (passed k)) (a .op) (c .before .before .before .before .before .before .before .before .before .before .before .before .stages .ensures .count) in
@@ -81,7 +105,7 @@ returns-2 : tie.Need-returns-2
 returns-2 c =
     let k = c .before .before .before .before .before .before .before .before .before .before .before .before .before .before .before .before .before .before .before in
     let a = start k .args in
-    ran (a .plan .now) (a .w) (a .h) (a .frame .now) (a .first .now) (a .second .now) (passed k) (c .before .before .before .before .before .before .before .before .before .before .before .before .before .before .before .before .before .put .ensures) (c .before .before .before .before .before .before .before .before .before .before .before .before .stages .ensures) (c .before .before .before .before .cut .ensures) _ refl
+    ran (a .plan .now) (a .w) (a .h) (a .frame .now) (a .first .now) (a .second .now) (passed k) (c .before .before .before .before .before .before .before .before .before .before .before .before .before .before .before .before .before .pack .ensures .done (fits k)) (c .before .before .before .before .before .before .before .before .before .before .before .before .stages .ensures) (c .before .before .before .before .cut .ensures) _ refl
 
 pub clean-spec : {M : Type 1} → statement M
 clean-spec =
@@ -93,11 +117,13 @@ clean-spec =
     same-length-2
     returns
     enum-told
-    put-requires
+    add-pack
+    add-pack-2
+    pack-requires
     stages-requires
     shared-slice-read-cut
     cut-requires
-    cast-t24
+    cast-run
     same-length-3
     same-length-4
     returns-2)

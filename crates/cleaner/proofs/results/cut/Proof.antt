@@ -1,8 +1,9 @@
 -- The cut goes from one image into the other, at the distances that the place gives.
-use borrow.Author.Needs.{needs}
+use Rattle.words.specs.Word.{placeX, placeY}
+use Rattle.cleaner.proofs.Alternating.{room-cut}
+use Rattle.cleaner.proofs.Reading.{ahead-small, away-first, away-second}
 use native.Mathlib.Omega.{arith}
-use Rattle.frames.proofs.Sides.{sides}
-use Rattle.cleaner.proofs.Reading.{away-first, away-second}
+use borrow.Author.Needs.{needs}
 use Rattle.cleaner.proofs.results.cut.Statement.{statement}
 use Rattle.cleaner.proofs.results.cut.Tie as tie
 
@@ -12,20 +13,14 @@ ahead-requires c κs = search needs
 ahead-requires-2 : tie.Need-ahead-requires-2
 ahead-requires-2 c κs = search needs
 
-add-cut : tie.Need-add-cut
-add-cut c =
-    let st = c .before .before .before .before .before .before .before in
-    let b = sides (st .args .w) (st .args .h) (st .pre .2) in
-    record { fits = omega arith }
+add-unpack : tie.Need-add-unpack
+add-unpack c = search needs
 
-add-cut-2 : tie.Need-add-cut-2
-add-cut-2 c =
-    let st = c .before .before .before .before .before .before .before in
-    let b = sides (st .args .w) (st .args .h) (st .pre .2) in
-    record { fits = omega arith }
+add-unpack-2 : tie.Need-add-unpack-2
+add-unpack-2 c = search needs
 
-cut-requires : tie.Need-cut-requires
-cut-requires c κs = search needs
+unpack-requires : tie.Need-unpack-requires
+unpack-requires c κs = search needs
 
 same-length : tie.Need-same-length
 same-length c = search needs
@@ -34,22 +29,24 @@ same-length-2 : tie.Need-same-length-2
 same-length-2 c = search needs
 
 returns : tie.Need-returns
-returns c = away-first (c .before .before .before .before .before .before .before .before .before .before .args .place) (c .before .before .before .before .before .before .before .ahead .ensures) (c .before .before .before .before .before .before .ahead2 .ensures) (c .before .before .before .before .before .if1 .taken) (c .before .before .cut .ensures)
+returns c =
+    let st = c .before .before .before .before .before .before .before .before .before .before in
+    let p = st .args .place in
+    let a = c .before .before .before .before .before .before .before .ahead in
+    let b = c .before .before .before .before .before .before .ahead2 in
+    let x = a .ensures in
+    let y = b .ensures in
+    let fits = room-cut (st .pre .2) (st .args .first .now) (st .args .second .now) (st .pre .2 .first) (st .pre .2 .second) (a .result) (b .result) (omega (arith, x, ahead-small (st .args .op) (placeX p) (st .pre .0))) (omega (arith, y, ahead-small (st .args .op) (placeY p) (st .pre .1))) in
+    away-first p x y (c .before .before .before .before .before .if1 .taken) (c .before .before .unpack .ensures .done fits)
 
-add-cut-3 : tie.Need-add-cut-3
-add-cut-3 c =
-    let st = c .before .before .before .before .before .before .before in
-    let b = sides (st .args .w) (st .args .h) (st .pre .2) in
-    record { fits = omega arith }
+add-unpack-3 : tie.Need-add-unpack-3
+add-unpack-3 c = search needs
 
-add-cut-4 : tie.Need-add-cut-4
-add-cut-4 c =
-    let st = c .before .before .before .before .before .before .before in
-    let b = sides (st .args .w) (st .args .h) (st .pre .2) in
-    record { fits = omega arith }
+add-unpack-4 : tie.Need-add-unpack-4
+add-unpack-4 c = search needs
 
-cut-requires-2 : tie.Need-cut-requires-2
-cut-requires-2 c κs = search needs
+unpack-requires-2 : tie.Need-unpack-requires-2
+unpack-requires-2 c κs = search needs
 
 same-length-3 : tie.Need-same-length-3
 same-length-3 c = search needs
@@ -58,7 +55,15 @@ same-length-4 : tie.Need-same-length-4
 same-length-4 c = search needs
 
 returns-2 : tie.Need-returns-2
-returns-2 c = away-second (c .before .before .before .before .before .before .before .before .before .before .args .place) (c .before .before .before .before .before .before .before .ahead .ensures) (c .before .before .before .before .before .before .ahead2 .ensures) (c .before .before .before .before .before .if1 .left) (c .before .before .cut2 .ensures)
+returns-2 c =
+    let st = c .before .before .before .before .before .before .before .before .before .before in
+    let p = st .args .place in
+    let a = c .before .before .before .before .before .before .before .ahead in
+    let b = c .before .before .before .before .before .before .ahead2 in
+    let x = a .ensures in
+    let y = b .ensures in
+    let fits = room-cut (st .pre .2) (st .args .second .now) (st .args .first .now) (st .pre .2 .second) (st .pre .2 .first) (a .result) (b .result) (omega (arith, x, ahead-small (st .args .op) (placeX p) (st .pre .0))) (omega (arith, y, ahead-small (st .args .op) (placeY p) (st .pre .1))) in
+    away-second p x y (c .before .before .before .before .before .if1 .left) (c .before .before .unpack2 .ensures .done fits)
 
 pub cut-spec : {M : Type 1} → statement M
 cut-spec =
@@ -66,15 +71,15 @@ cut-spec =
     (tie.spec
     ahead-requires
     ahead-requires-2
-    add-cut
-    add-cut-2
-    cut-requires
+    add-unpack
+    add-unpack-2
+    unpack-requires
     same-length
     same-length-2
     returns
-    add-cut-3
-    add-cut-4
-    cut-requires-2
+    add-unpack-3
+    add-unpack-4
+    unpack-requires-2
     same-length-3
     same-length-4
     returns-2)

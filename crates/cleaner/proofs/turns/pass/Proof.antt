@@ -1,10 +1,10 @@
--- The invariant: the stages before word k were run, and those that are left take the grid that stands to the last one. The measure is the words left.
-use borrow.Author.Needs.{needs}
-use native.Mathlib.Omega.{arith}
+-- The invariant: the stages before word k were run, and those that are left take the grid that is shown to the last one. The measure is the words left.
 use Prim.Native.Nat.{_-_, _≤_}
 use lib.ListN.{length}
-use Rattle.cleaner.proofs.Alternating.{Midway, midway-start, midway-more, midway-sizes, midway-end}
-use Rattle.cleaner.proofs.Accepted.{plan-length, word-passes}
+use Rattle.cleaner.proofs.Alternating.{Midway, midway-start, midway-more, midway-end, room-past}
+use Rattle.cleaner.proofs.Accepted.{plan-length}
+use borrow.Author.Needs.{needs}
+use native.Mathlib.Omega.{arith}
 use Rattle.cleaner.proofs.turns.pass.Statement.{statement}
 use Rattle.cleaner.proofs.turns.pass.Tie as tie
 
@@ -17,7 +17,7 @@ abbrev μ-loop : tie.MeasureT-loop
 loop-holds : tie.Need-loop-holds Inv-loop μ-loop
 loop-holds c =
     let st = c .before .before .before in
-    (omega arith, plan-length (st .args .plan .now) (st .pre .0) .0, midway-start (st .pre .1))
+    (omega arith, plan-length (st .args .plan .now) (st .pre .0) .0, midway-start)
 
 mul-turn : tie.Need-mul-turn Inv-loop μ-loop
 mul-turn c = search needs
@@ -25,8 +25,11 @@ mul-turn c = search needs
 shared-slice-read-turn : tie.Need-shared-slice-read-turn Inv-loop μ-loop
 shared-slice-read-turn c = search needs
 
+cast-turn : tie.Need-cast-turn Inv-loop μ-loop
+cast-turn c = search needs
+
 turn-requires : tie.Need-turn-requires Inv-loop μ-loop
-turn-requires c κs = search needs
+turn-requires c κs = let m = c .before .before .before .before .loop .inv .2 in room-past (c .before .before .before .before .before .before .before .before .pre .1) (m .first) (m .second)
 
 add-n : tie.Need-add-n Inv-loop μ-loop
 add-n c =
@@ -48,25 +51,17 @@ loop-less c = search needs
 
 loop-again : tie.Need-loop-again Inv-loop μ-loop
 loop-again c =
-    let at = c .before .before .before .before .before .before .before .before .before in
-    let l = at .loop in
-    let st = at .before .before .before .before in
-    let m = l .inv .2 in (
-      omega arith,
-      omega arith,
-      midway-more (st .pre .1) m (word-passes (st .args .plan .now) (st .pre .0) (l .k) (l .inv .0) (omega arith) (m .ready)) (c .before .before .before .before .turn .ensures) (omega arith),
-    )
+    let l = c .before .before .before .before .before .before .before .before .before .loop in
+    (omega arith, omega arith, midway-more (l .inv .2) (c .before .before .before .before .turn .ensures) (omega arith))
 
 same-length : tie.Need-same-length Inv-loop μ-loop
-same-length c = midway-sizes (c .before .before .before .before .before .pre .1) (c .before .loop .inv .2) .0
+same-length c = c .before .loop .inv .2 .first .size
 
 same-length-2 : tie.Need-same-length-2 Inv-loop μ-loop
-same-length-2 c = midway-sizes (c .before .before .before .before .before .pre .1) (c .before .loop .inv .2) .1
+same-length-2 c = c .before .loop .inv .2 .second .size
 
 returns : tie.Need-returns Inv-loop μ-loop
-returns c =
-    let l = c .before .loop in
-    midway-end (c .before .before .before .before .before .pre .1) (l .inv .2) (l .inv .0) (omega arith)
+returns c = let l = c .before .loop in midway-end (l .inv .2) (l .inv .0) (omega arith)
 
 pub pass-spec : {M : Type 1} → statement M
 pass-spec =
@@ -77,6 +72,7 @@ pass-spec =
     loop-holds
     mul-turn
     shared-slice-read-turn
+    cast-turn
     turn-requires
     add-n
     add-k

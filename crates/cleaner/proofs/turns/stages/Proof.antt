@@ -1,6 +1,7 @@
 -- Each arm of the match is one operation: its passes, in order.
 use borrow.Author.Needs.{needs}
 use Rattle.cleaner.proofs.Accepted.{most}
+use Rattle.cleaner.proofs.Alternating.{room-past}
 use Rattle.cleaner.proofs.Ending.{dilation-ends, erosion-ends, opening-ends, closing-ends}
 use Rattle.cleaner.proofs.turns.stages.Statement.{statement}
 use Rattle.cleaner.proofs.turns.stages.Tie as tie
@@ -27,7 +28,7 @@ pass-requires-4 : tie.Need-pass-requires-4
 pass-requires-4 c κs =
     let st = c .before .before .before .before .before .before .before .before .before .before .before .before .before .before in
     let p = c .before .before .before .before .before .before .pass3 .ensures in
-    (st .pre .0, p .ready, most (st .args .plan .now) (st .pre .0) (p .count))
+    (st .pre .0, room-past (st .pre .1) (p .first) (p .second), most (st .args .plan .now) (st .pre .0) (p .count))
 
 enum-told-4 : tie.Need-enum-told-4
 enum-told-4 c = search needs
@@ -39,7 +40,7 @@ pass-requires-6 : tie.Need-pass-requires-6
 pass-requires-6 c κs =
     let st = c .before .before .before .before .before .before .before .before .before .before .before .before .before .before in
     let p = c .before .before .before .before .before .before .pass5 .ensures in
-    (st .pre .0, p .ready, most (st .args .plan .now) (st .pre .0) (p .count))
+    (st .pre .0, room-past (st .pre .1) (p .first) (p .second), most (st .args .plan .now) (st .pre .0) (p .count))
 
 same-length : tie.Need-same-length
 same-length c = search needs
@@ -48,7 +49,7 @@ same-length-2 : tie.Need-same-length-2
 same-length-2 c = search needs
 
 returns : tie.Need-returns
-returns c = dilation-ends (c .before .before .before .before .before .before .before .before .before .before .before .before .pre .1) _ (c .before .before .before .before .before .before .before .enum-told .given .1) (c .before .before .before .before .pass .ensures)
+returns c = dilation-ends _ (c .before .before .before .before .before .before .before .enum-told .given .1) (c .before .before .before .before .pass .ensures)
 
 same-length-3 : tie.Need-same-length-3
 same-length-3 c = search needs
@@ -57,7 +58,7 @@ same-length-4 : tie.Need-same-length-4
 same-length-4 c = search needs
 
 returns-2 : tie.Need-returns-2
-returns-2 c = erosion-ends (c .before .before .before .before .before .before .before .before .before .before .before .before .pre .1) _ (c .before .before .before .before .before .before .before .enum-told2 .given .1) (c .before .before .before .before .pass2 .ensures)
+returns-2 c = erosion-ends _ (c .before .before .before .before .before .before .before .enum-told2 .given .1) (c .before .before .before .before .pass2 .ensures)
 
 same-length-5 : tie.Need-same-length-5
 same-length-5 c = search needs
@@ -66,7 +67,7 @@ same-length-6 : tie.Need-same-length-6
 same-length-6 c = search needs
 
 returns-3 : tie.Need-returns-3
-returns-3 c = opening-ends (c .before .before .before .before .before .before .before .before .before .before .before .before .before .before .before .before .before .before .before .pre .1) _ (c .before .before .before .before .before .before .before .before .before .before .before .before .before .before .enum-told3 .given .1) (c .before .before .before .before .before .before .before .before .before .before .before .pass3 .ensures) (c .before .before .before .before .pass4 .ensures)
+returns-3 c = opening-ends _ (c .before .before .before .before .before .before .before .before .before .before .before .before .before .before .enum-told3 .given .1) (c .before .before .before .before .before .before .before .before .before .before .before .pass3 .ensures) (c .before .before .before .before .pass4 .ensures)
 
 same-length-7 : tie.Need-same-length-7
 same-length-7 c = search needs
@@ -75,7 +76,7 @@ same-length-8 : tie.Need-same-length-8
 same-length-8 c = search needs
 
 returns-4 : tie.Need-returns-4
-returns-4 c = closing-ends (c .before .before .before .before .before .before .before .before .before .before .before .before .before .before .before .before .before .before .before .pre .1) _ (c .before .before .before .before .before .before .before .before .before .before .before .before .before .before .enum-told4 .given .1) (c .before .before .before .before .before .before .before .before .before .before .before .pass5 .ensures) (c .before .before .before .before .pass6 .ensures)
+returns-4 c = closing-ends _ (c .before .before .before .before .before .before .before .before .before .before .before .before .before .before .enum-told4 .given .1) (c .before .before .before .before .before .before .before .before .before .before .before .pass5 .ensures) (c .before .before .before .before .pass6 .ensures)
 
 pub stages-spec : {M : Type 1} → statement M
 stages-spec =
