@@ -1,17 +1,16 @@
 -- Putting loses nothing: the grid that a frame is put into, read on the plane, is the frame.
-use mathlib.Core.Path.{_≡_, _∙_, subst, fun-ext}
+use mathlib.Core.Path.{_≡_, subst, fun-ext}
 use mathlib.Core.List.{List}
 use Prim.Native.Nat.{ℕ, _+_, _≤_, zero-le}
 use native.Mathlib.Omega.{arith}
-use native.Mathlib.Nat.{mul-comm}
 use lib.Dec.{T, not-T}
-use lib.ListN.{length, getD}
+use lib.ListN.{getD}
 use Rattle.plane.specs.Point.{Point}
 use Rattle.plane.proofs.Algebra.{+ᵖ-origin}
 use Rattle.plane.proofs.Tests.{clash}
-use Rattle.grids.specs.Frame.{frame, free, gridSize}
+use Rattle.grids.specs.Frame.{frame, free}
 use Rattle.grids.specs.Grid.{grid, put}
-use Rattle.grids.proofs.Pictures.{inside, Within, inside-add, view-outside, view-within, length-cells}
+use Rattle.grids.proofs.Pictures.{inside, Within, inside-add, view-outside, view-within}
 use Rattle.grids.proofs.Stage.{Binary, view-binary}
 
 -- a picture that is free outside a window is free outside a larger one
@@ -30,7 +29,3 @@ frame-within W H f = view-outside 0 W H f
 pub put-whole : (W H : ℕ) (f : List ℕ) → grid free W H (put W H f) ≡ frame free W H f
 unfolding put
 put-whole W H f = fun-ext (view-within 0 (W + 15) (H + 15) (frame free W H f) (within-more (frame free W H f) W H 15 15 (frame-within W H f)))
-
-pub put-size : (W H : ℕ) (f : List ℕ) → length (put W H f) ≡ gridSize W H
-unfolding put
-put-size W H f = length-cells (W + 15) (H + 15) (frame free W H f) ∙ mul-comm (H + 15) (W + 15)

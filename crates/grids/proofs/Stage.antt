@@ -1,9 +1,9 @@
 -- Pictures whose values are 0 or 1: dilation is ⊕ and erosion ⊖ of the occupied points. So a single stage is Minkowski's sum or difference with the
 -- mask's points, cut to the grid, whatever the value outside.
-use mathlib.Core.Path.{_≡_, refl, sym, _∙_, ap, subst, fun-ext}
+use mathlib.Core.Path.{_≡_, refl, sym, _∙_, ap, subst}
 use mathlib.Core.Logic.{_↔_, _⊎_, inl, inr}
 use mathlib.Core.Bool.{Bool, true, false, not, _&&_}
-use mathlib.Core.List.{List, [], _∷_, _++_, map}
+use mathlib.Core.List.{List, [], _∷_, map}
 use Prim.Native.Nat.{ℕ, zero, suc, _+_, _*_, _≤_, _<_, zero-le}
 use native.Mathlib.Omega.{arith}
 use native.Mathlib.Decide.{ℕ-discrete}
@@ -22,7 +22,7 @@ use Rattle.grids.specs.Frame.{free, full, greater, lesser, over, occupie
 use Rattle.grids.specs.Grid.{grid, laid, once}
 use Rattle.grids.specs.Image.{valueAt, view, cells, fold, dilated, eroded}
 use Rattle.grids.proofs.Fold.{Semilattice, absorb}
-use Rattle.grids.proofs.Pictures.{getD-cells, length-cells, view-starts}
+use Rattle.grids.proofs.Pictures.{getD-cells, length-cells}
 
 pub greater-laws : Semilattice greater
 greater-laws = record { assoc = λ a b c. omega arith; comm = λ a b. omega arith; idem = λ a. omega arith }
@@ -106,13 +106,6 @@ view-binary v W H l low h p = go (p .0) (p .1)
     go (pos x) (negsuc y) = low
     go (negsuc x) y = low
 
-pub cells-binary : (W H : ℕ) (f : Point → ℕ) → Binary f → T (not (badCell (cells W H f)))
-unfolding cells
-cells-binary W H f b = any-no (ltb full) (cells W H f) (λ a h.
-    let r = In-flat (λ y. map (λ x. f (pos x, pos y)) (upTo W)) (upTo H) a .0 h in
-    let s = In-map (λ x. f (pos x, pos (r .0))) (upTo W) a .0 (r .2) in
-    not-ltb full a (subst (λ n. n ≤ 1) (sym (s .2)) (b (pos (s .0), pos (r .0)))))
-
 -- ---- the single stage
 
 pub once-is : (erode : Bool) (v W H m : ℕ) (g : List ℕ) → once erode v W H m g ≡ laid W H (over erode (maskPoints m) (grid v W H g))
@@ -137,22 +130,12 @@ pub once-cell : (erode : Bool) (v W H m : ℕ) (g : List ℕ) (x y : ℕ) → x 
 once-cell erode v W H m g x y h k =
     ap (λ l. getD l (y * (W + 15) + x) 0) (once-is erode v W H m g) ∙ getD-cells (W + 15) (H + 15) (over erode (maskPoints m) (grid v W H g)) x y 0 h k
 
--- a stage reads the grid alone, and nothing that stands past it
-pub once-starts : (erode : Bool) (v W H m : ℕ) (g r : List ℕ) → gridSize W H ≤ length g → once erode v W H m (g ++ r) ≡ once erode v W H m g
-once-starts erode v W H m g r h =
-    once-is erode v W H m (g ++ r) ∙ ap (λ f. laid W H (over erode (maskPoints m) f)) (fun-ext (view-starts v (W + 15) (H + 15) g r h)) ∙ sym (once-is erode v W H m g)
-
 -- where the grid's bytes, read as far as its image goes, are at most 1, so is every cell of it on the plane
 pub grid-binary : (v W H : ℕ) (g : List ℕ) → v ≤ 1 → T (not (badCell (take (gridSize W H) g))) → Binary (grid v W H g)
 grid-binary v W H g low clean = view-binary v (W + 15) (H + 15) g low (λ i h.
     subst (λ n. n ≤ 1) (getD-take (gridSize W H) g i v (subst (λ n. i < n) (mul-comm (H + 15) (W + 15)) h)) (bytes-binary v low (take (gridSize W H) g) clean i))
 
 module _ (v W H m : ℕ) (g : List ℕ) (low : v ≤ 1) (clean : T (not (badCell (take (gridSize W H) g)))) where
-  pub once-clean : (erode : Bool) → T (not (badCell (once erode v W H m g)))
-  once-clean erode =
-      subst (λ l. T (not (badCell l))) (sym (once-is erode v W H m g))
-      (cells-binary (W + 15) (H + 15) (over erode (maskPoints m) (grid v W H g)) (over-binary erode (maskPoints m) (grid v W H g) (grid-binary v W H g low clean)))
-
   pub once-dilation : (x y : ℕ) → x < W + 15 → y < H + 15 → (getD (once false v W H m g) (y * (W + 15) + x) 0 ≡ 1) ↔ (occupied (grid v W H g) ⊕ Mask m) (pos x, pos y)
   once-dilation x y h k =
       subst (λ n. (n ≡ 1) ↔ (occupied (grid v W H g) ⊕ Mask m) (pos x, pos y)) (sym (once-cell false v W H m g x y h k))

@@ -1,12 +1,10 @@
--- A refusal is the answer; else what no ground refuses fits, and is written.
+-- A refusal is the answer; else what no ground refuses is ready, and the grid is written.
 use borrow.Author.Needs.{needs}
-use native.Mathlib.Omega.{arith}
 use mathlib.Core.Path.{refl}
 use Rattle.words.proofs.Tested.{no-refusal}
 use Rattle.grids.specs.Grid.{stageTests}
-use Rattle.frames.proofs.Sides.{sides}
 use Rattle.frames.proofs.Tested.{refused-call}
-use Rattle.framing.proofs.Fitting.{stage-sides, stage-done}
+use Rattle.framing.proofs.Fitting.{ready, stage-done}
 use Rattle.framing.proofs.stage.Statement.{statement}
 use Rattle.framing.proofs.stage.Tie as tie
 
@@ -31,24 +29,12 @@ enum-told c = search needs
 cast-mask : tie.Need-cast-mask
 cast-mask c = search needs
 
-add-stage : tie.Need-add-stage
-add-stage c =
+through-requires : tie.Need-through-requires
+through-requires c κs =
     let k = c .before .before in
     let t = k .before .stage-refusal in
     let a = k .before .before .before .before .before .args in
-    let b = sides (a .w) (a .h) (stage-sides (a .word) (a .w) (a .h) (a .from .now) (a .to .now) (no-refusal (t .result) _ (k .match .keys2) (t .ensures))) in
-    record { fits = omega arith }
-
-add-stage-2 : tie.Need-add-stage-2
-add-stage-2 c =
-    let k = c .before .before in
-    let t = k .before .stage-refusal in
-    let a = k .before .before .before .before .before .args in
-    let b = sides (a .w) (a .h) (stage-sides (a .word) (a .w) (a .h) (a .from .now) (a .to .now) (no-refusal (t .result) _ (k .match .keys2) (t .ensures))) in
-    record { fits = omega arith }
-
-stage-requires : tie.Need-stage-requires
-stage-requires c κs = search needs
+    ready (a .word) (a .w) (a .h) (a .from .now) (a .to .now) (no-refusal (t .result) _ (k .match .keys2) (t .ensures))
 
 same-length-2 : tie.Need-same-length-2
 same-length-2 c = search needs
@@ -58,8 +44,7 @@ returns-2 c =
     let k = c .before .before .before .before .before in
     let t = k .before .stage-refusal in
     let a = k .before .before .before .before .before .args in
-    let p = c .before .before .stage in
-    stage-done (a .word) (a .w) (a .h) (a .from .now) (a .to .now) (no-refusal (t .result) _ (k .match .keys2) (t .ensures)) (a .erode) (p .result) _ _ refl (p .ensures)
+    stage-done (a .word) (a .w) (a .h) (a .from .now) (a .to .now) (no-refusal (t .result) _ (k .match .keys2) (t .ensures)) (a .erode) _ _ refl (c .before .before .through .ensures)
 
 pub stage-spec : {M : Type 1} → statement M
 stage-spec =
@@ -71,8 +56,6 @@ stage-spec =
     returns
     enum-told
     cast-mask
-    add-stage
-    add-stage-2
-    stage-requires
+    through-requires
     same-length-2
     returns-2)

@@ -1,8 +1,0 @@
-pub mod Readings
-pub mod FlatIndex
-pub mod Columns
-pub mod MaskBits
-pub mod PlaneReads
-pub mod Sizing
-pub mod OnGrids
-pub mod Examples

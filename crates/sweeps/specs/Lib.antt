@@ -1,2 +1,0 @@
-pub mod Sweeps
-pub mod Flat
