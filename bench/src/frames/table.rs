@@ -100,24 +100,28 @@ pub struct Table {
     begun: bool,
 }
 
-/// A row as it was measured; the first of its engines is the library.
+/// A row as it was measured, each engine's seconds by round; the first of its engines is
+/// the library.
 pub struct Row {
     pub size: Size,
     pub name: String,
     engines: Vec<&'static str>,
-    seconds: Vec<f64>,
+    seconds: Vec<Vec<f64>>,
 }
 
 impl Row {
-    /// Of the library.
+    /// Of the library, the median of the rounds.
     pub fn microseconds(&self) -> f64 {
-        self.seconds[0] * 1e6
+        crate::median(self.seconds[0].clone()) * 1e6
     }
 
-    /// The library's time over this engine's, if that was timed.
+    /// The library's time over this engine's in the same round, if that was timed: the
+    /// median of the rounds. A machine that changes its pace between two rounds changes
+    /// no ratio.
     pub fn over(&self, engine: &str) -> Option<f64> {
         let place = self.engines.iter().position(|&name| name == engine)?;
-        Some(self.seconds[0] / self.seconds[place])
+        let rounds = self.seconds[0].iter().zip(&self.seconds[place]);
+        Some(crate::median(rounds.map(|(one, two)| one / two).collect()))
     }
 }
 
@@ -184,9 +188,9 @@ fn assert_agreement(row: &str, engines: &mut [Engine]) {
     }
 }
 
-/// The median seconds of each engine's work: in each round every engine in turn works
+/// The seconds of each engine's work by round: in each of them every engine in turn works
 /// so many times; one round before isn't counted.
-fn measure(engines: &mut [Engine], pace: Pace) -> Vec<f64> {
+fn measure(engines: &mut [Engine], pace: Pace) -> Vec<Vec<f64>> {
     let mut seconds = vec![Vec::new(); engines.len()];
     for round in 0..=pace.rounds {
         for (engine, seconds) in engines.iter_mut().zip(&mut seconds) {
@@ -200,5 +204,5 @@ fn measure(engines: &mut [Engine], pace: Pace) -> Vec<f64> {
             }
         }
     }
-    seconds.into_iter().map(crate::median).collect()
+    seconds
 }
