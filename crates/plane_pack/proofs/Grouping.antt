@@ -1,93 +1,112 @@
--- Rows of cells put under a run of bytes, the last of them first.
-use mathlib.Core.Path.{_≡_, refl, ap, _∙_, subst}
+-- Rows of cells put into a run of bytes, the first of them first.
+use mathlib.Core.Path.{_≡_, refl, sym, ap, _∙_, subst}
 use mathlib.Core.Logic.{⊎-elim}
 use mathlib.Core.Bool.{cond}
 use mathlib.Core.List.{List}
-use Prim.Native.Nat.{ℕ, zero, suc, _+_, _-_, _*_, _%_, min, _<_, _≤_}
-use native.Mathlib.Nat.{add-mul}
+use Prim.Native.Nat.{ℕ, _+_, _-_, _*_, _%_, _^_, min, max, _<_, _≤_}
 use native.Mathlib.Omega.{arith}
-use lib.Dec.{ltb}
+use lib.Dec.{ltb, eqb}
 use lib.ListN.{length, getD}
-use borrow.Author.Tests.{lt-ltb, le-ltb}
+use borrow.Author.Tests.{lt-ltb, le-ltb, eq-eqb, ne-eqb}
 use borrow.Rule.Slice.PartMut.{midOf, putMid}
 use Rattle.plane.proofs.Tests.{lt-or-le}
 use Rattle.rows.specs.Cells.{bit}
+use Rattle.runs.specs.Runs.{Ranged}
 use Rattle.runs.proofs.Ranges.{getD-mid}
 use Rattle.runs.proofs.FlatRows.{rows-apart}
 use Rattle.planes.specs.Bytes.{Bitted}
 use Rattle.planes.proofs.Bitting.{bitted-ap, bitted-part}
-use Rattle.plane_pack.specs.Groups.{aboveBits, groupBit, GroupPut}
+use Rattle.planes.proofs.WholeBytes.{up-in, up-out}
+use Rattle.plane_pack.specs.Groups.{laidBit, groupBit, GroupPut}
 
--- bit q of byte k after the rows from j to r were put under it
-abbrev pub fewBit : List ℕ → List ℕ → ℕ → ℕ → ℕ → ℕ → ℕ → ℕ
-fewBit d s w r j k q = cond (ltb q (r - j)) (getD s ((j + q) * w + k) 0 % 2) (bit (getD d k 0) (q - (r - j)))
+-- the greater of two numbers of which one is 0
+first-of : {x y a : ℕ} → x ≡ a → y ≡ 0 → max x y ≡ a
+first-of p q = omega arith
 
-module _ (d s : List ℕ) (w r : ℕ) where
-  pub few-none : Bitted 0 (length d) (fewBit d s w r r) d d
-  few-none = record { len = refl; at = λ k q lo hi lq. none k q; below = λ k l. refl; above = λ k l. refl }
-    where
-      none : (k q : ℕ) → bit (getD d k 0) q ≡ fewBit d s w r r k q
-      none k q =
-          let z : q - (r - r) ≡ q = omega arith in
-          rw (le-ltb q (r - r) (omega arith), z)
+second-of : {x y a : ℕ} → x ≡ 0 → y ≡ a → max x y ≡ a
+second-of p q = omega arith
 
-  module _ (j : ℕ) (l : j < r) (fits : r * w ≤ length s) where
-    first : (k : ℕ) → k < w → getD (midOf (j * w) (j * w + w - j * w) s) k 0 % 2 ≡ fewBit d s w r j k 0
-    first k h =
-        let z : j * w + k ≡ (j + 0) * w + k = omega (arith, add-mul j 0 w) in
-        ap (λ (n : ℕ). n % 2) (getD-mid 0 (j * w) (j * w + w - j * w) s k (omega arith)) ∙ rw (lt-ltb 0 (r - j) (omega arith)) (ap (λ (n : ℕ). getD s n 0 % 2) z)
+-- bit q of byte k after the rows below j were put into it, of r rows under the bits of v
+abbrev pub fewBit : List ℕ → ℕ → ℕ → ℕ → ℕ → ℕ → ℕ → ℕ
+fewBit s w r v j k q = cond (ltb q j) (getD s (q * w + k) 0 % 2) (bit (v * 2 ^ r % 256) q)
 
-    next : (k q : ℕ) → fewBit d s w r (j + 1) k q ≡ fewBit d s w r j k (suc q)
-    next k q = ⊎-elim
-        (λ (u : q < r - (j + 1)).
-        let z : j + 1 + q ≡ j + suc q = omega arith in
-        rw (lt-ltb q (r - (j + 1)) u, lt-ltb (suc q) (r - j) (omega arith)) (ap (λ (n : ℕ). getD s (n * w + k) 0 % 2) z))
-        (λ (u : r - (j + 1) ≤ q).
-        let z : q - (r - (j + 1)) ≡ suc q - (r - j) = omega arith in
-        rw (le-ltb q (r - (j + 1)) u, le-ltb (suc q) (r - j) (omega arith)) (ap (λ (n : ℕ). bit (getD d k 0) n) z))
-        (lt-or-le q (r - (j + 1)))
+module _ (s : List ℕ) (w r v : ℕ) where
+  -- before the first row
+  pub few-none : {d d' : List ℕ} → Ranged 0 0 (length d) (λ _. v * 2 ^ r % 256) d d' → Bitted 0 (length d') (fewBit s w r v 0) d' d'
+  few-none a = record { len = refl; at = λ k q lo hi lq. ap (λ (n : ℕ). bit n q) (a .at k lo (omega (arith, a .len))) ∙ rw (le-ltb q 0 (omega arith)); below = λ k u. refl; above = λ k u. refl }
 
-    under : (b k q : ℕ) → k < w → ((i : ℕ) → i < 8 → bit b i ≡ fewBit d s w r (j + 1) k i) → q < 8 → aboveBits (getD (midOf (j * w) (j * w + w - j * w) s) k 0) b q ≡ fewBit d s w r j k q
-    under b k zero h e lq = first k h
-    under b k (suc q) h e lq = e q (omega arith) ∙ next k q
+  module _ (j : ℕ) (l : j < r) (small : r < 8) (fits : r * w ≤ length s) where
+    -- the row's cells
+    row : (k : ℕ) → k < w → getD (midOf (j * w) (j * w + w - j * w) s) k 0 ≡ getD s (j * w + k) 0
+    row k h = getD-mid 0 (j * w) (j * w + w - j * w) s k (omega arith)
 
-    pub few-more : {d' d'' : List ℕ} → length d ≤ w → Bitted 0 (length d) (fewBit d s w r (j + 1)) d d'
-        → Bitted 0 (length d') (λ k q. aboveBits (getD (midOf (j * w) (j * w + w - j * w) s) k 0) (getD d' k 0) q) d' d'' → Bitted 0 (length d) (fewBit d s w r j) d d''
-    few-more {d'} h a b = record {
+    lay-bit : (b k q : ℕ) → k < w → q < 8 → bit b q ≡ fewBit s w r v j k q → laidBit b (getD (midOf (j * w) (j * w + w - j * w) s) k 0) j q ≡ fewBit s w r v (j + 1) k q
+    lay-bit b k q h lq e =
+        let c = getD (midOf (j * w) (j * w + w - j * w) s) k 0 in
+        ⊎-elim
+        (λ (u : q < j).
+        let p : fewBit s w r v j k q ≡ getD s (q * w + k) 0 % 2 = rw (lt-ltb q j u) in
+        let n : fewBit s w r v (j + 1) k q ≡ getD s (q * w + k) 0 % 2 = rw (lt-ltb q (j + 1) (omega arith)) in
+        let z : cond (eqb q j) (c % 2) 0 ≡ 0 = rw (ne-eqb q j (λ e. omega arith)) in
+        first-of (e ∙ p) z ∙ sym n)
+        (λ (u : j ≤ q). ⊎-elim
+        (λ (g : j < q).
+        let p : fewBit s w r v j k q ≡ bit (v * 2 ^ r % 256) q = rw (le-ltb q j u) in
+        let n : fewBit s w r v (j + 1) k q ≡ bit (v * 2 ^ r % 256) q = rw (le-ltb q (j + 1) (omega arith)) in
+        let z : cond (eqb q j) (c % 2) 0 ≡ 0 = rw (ne-eqb q j (λ e. omega arith)) in
+        first-of (e ∙ p) z ∙ sym n)
+        (λ (g : q ≤ j).
+        let m : q ≡ j = omega arith in
+        let p : fewBit s w r v j k q ≡ bit (v * 2 ^ r % 256) q = rw (le-ltb q j u) in
+        let n : fewBit s w r v (j + 1) k q ≡ getD s (q * w + k) 0 % 2 = rw (lt-ltb q (j + 1) (omega arith)) in
+        let z : cond (eqb q j) (c % 2) 0 ≡ c % 2 = rw (eq-eqb q j m) in
+        second-of (e ∙ p ∙ up-out v r q (omega arith) lq) (z ∙ ap (λ (i : ℕ). i % 2) (row k h) ∙ ap (λ (i : ℕ). getD s (i * w + k) 0 % 2) (sym m)) ∙ sym n)
+        (lt-or-le j q))
+        (lt-or-le q j)
+
+    pub few-more : {d d' d'' : List ℕ} → length d ≤ w → Bitted 0 (length d) (fewBit s w r v j) d d'
+        → Bitted 0 (length d') (λ k q. laidBit (getD d' k 0) (getD (midOf (j * w) (j * w + w - j * w) s) k 0) j q) d' d'' → Bitted 0 (length d) (fewBit s w r v (j + 1)) d d''
+    few-more {d} {d'} h a b = record {
       len = b .len ∙ a .len;
-      at = λ k q lo hi lq. b .at k q lo (omega (arith, a .len)) lq ∙ under (getD d' k 0) k q (omega arith) (λ i li. a .at k i lo hi li) lq;
+      at = λ k q lo hi lq. b .at k q lo (omega (arith, a .len)) lq ∙ lay-bit (getD d' k 0) k q (omega arith) lq (a .at k q lo hi lq);
       below = λ k u. absurd (omega arith);
       above = λ k u. b .above k (omega (arith, a .len)) ∙ a .above k u;
     }
 
-  pub few-all : {d' : List ℕ} → Bitted 0 (length d) (fewBit d s w r 0) d d' → Bitted 0 (length d) (groupBit d s w r) d d'
-  few-all a = bitted-ap a (λ k q lo hi lq.
-      let z : r - 0 ≡ r = omega arith in
-      let y : 0 + q ≡ q = omega arith in
-      rw (z, y))
+  -- all of them
+  pub few-all : {d d' d'' : List ℕ} → Ranged 0 0 (length d) (λ _. v * 2 ^ r % 256) d d' → Bitted 0 (length d') (fewBit s w r v r) d' d'' → Bitted 0 (length d) (groupBit s w r v) d d''
+  few-all a b = record {
+    len = b .len ∙ a .len;
+    at = λ k q lo hi lq. b .at k q lo (omega (arith, a .len)) lq ∙ ⊎-elim
+        (λ (u : q < r). rw (lt-ltb q r u))
+        (λ (u : r ≤ q). rw (le-ltb q r u) (up-in v r q u lq))
+        (lt-or-le q r);
+    below = λ k u. absurd (omega arith);
+    above = λ k u. b .above k (omega (arith, a .len)) ∙ a .above k u;
+  }
 
-  pub eight-all : {d' : List ℕ} → r ≡ 8 → Bitted 0 (length d) (λ k q. getD s (q * w + k) 0 % 2) d d' → Bitted 0 (length d) (groupBit d s w r) d d'
+  pub eight-all : {n : ℕ} {d d' : List ℕ} → r ≡ 8 → Bitted 0 n (λ k q. getD s (q * w + k) 0 % 2) d d' → Bitted 0 n (groupBit s w r v) d d'
   eight-all e a = bitted-ap a (λ k q lo hi lq. rw (lt-ltb q r (omega arith)))
 
--- a part of the bytes with a part of the cells put under it
-pub group-put : (w a p q : ℕ) (f d : List ℕ) {ys : List ℕ} (r : ℕ) → r ≡ min a 8 → p + w ≤ length d → q + r * w ≤ length f
-    → Bitted 0 (length (midOf p (p + w - p) d)) (groupBit (midOf p (p + w - p) d) (midOf q (q + r * w - q) f) w r) (midOf p (p + w - p) d) ys → GroupPut w a p q f d (putMid p (p + w - p) d ys)
-group-put w a p q f d {ys} r e hd hf g =
+-- a part of the bytes that has a part of the cells
+pub group-put : (w a p q v : ℕ) (f d : List ℕ) {ys : List ℕ} (r : ℕ) → r ≡ min a 8 → p + w ≤ length d → q + r * w ≤ length f
+    → Bitted 0 (length (midOf p (p + w - p) d)) (groupBit (midOf q (q + r * w - q) f) w r v) (midOf p (p + w - p) d) ys → GroupPut w a p q v f d (putMid p (p + w - p) d ys)
+group-put w a p q v f d {ys} r e hd hf g =
     let b = bitted-part {a = p} {e = p + w} {xs = d} (omega arith) hd g in record {
       len = b .len;
       at = λ k i lk li.
           let z : p + k - p ≡ k = omega arith in
           b .at (p + k) i (omega arith) (omega arith) li
-          ∙ ap (λ (n : ℕ). groupBit (midOf p (p + w - p) d) (midOf q (q + r * w - q) f) w r n i) z
-          ∙ subst (λ (n : ℕ). groupBit (midOf p (p + w - p) d) (midOf q (q + r * w - q) f) w r k i ≡ cond (ltb i n) (getD f (q + (i * w + k)) 0 % 2) (bit (getD d (p + k) 0) (i - n))) e (cells k i lk);
+          ∙ ap (λ (n : ℕ). groupBit (midOf q (q + r * w - q) f) w r v n i) z
+          ∙ subst (λ (n : ℕ). groupBit (midOf q (q + r * w - q) f) w r v k i ≡ cond (ltb i n) (getD f (q + (i * w + k)) 0 % 2) (bit v (i - n))) e (cells k i lk);
       below = b .below;
       above = b .above;
     }
   where
-    cells : (k i : ℕ) → k < w → groupBit (midOf p (p + w - p) d) (midOf q (q + r * w - q) f) w r k i ≡ cond (ltb i r) (getD f (q + (i * w + k)) 0 % 2) (bit (getD d (p + k) 0) (i - r))
+    cells : (k i : ℕ) → k < w → groupBit (midOf q (q + r * w - q) f) w r v k i ≡ cond (ltb i r) (getD f (q + (i * w + k)) 0 % 2) (bit v (i - r))
     cells k i lk = ⊎-elim
         (λ (u : i < r).
         let l = rows-apart w i r u in
         rw (lt-ltb i r u) (ap (λ (n : ℕ). n % 2) (getD-mid 0 q (q + r * w - q) f (i * w + k) (omega arith))))
-        (λ (u : r ≤ i). rw (le-ltb i r u) (ap (λ (n : ℕ). bit n (i - r)) (getD-mid 0 p (p + w - p) d k (omega arith))))
+        (λ (u : r ≤ i). rw (le-ltb i r u))
         (lt-or-le i r)

@@ -1,26 +1,34 @@
 -- The bits of a byte that was put together from cells.
-use mathlib.Core.Path.{_≡_, sym, ap, _∙_}
+use mathlib.Core.Path.{_≡_, ap, _∙_}
+use mathlib.Core.Logic.{⊎-elim}
+use mathlib.Core.Bool.{cond}
 use mathlib.Core.List.{List}
-use Prim.Native.Nat.{ℕ, zero, suc, _+_, _*_, _/_, _%_, _^_, _<_}
+use Prim.Native.Nat.{ℕ, zero, suc, _+_, _-_, _*_, _%_, _^_, max, _<_, _≤_}
 use native.Mathlib.Omega.{arith}
-use native.Mathlib.Numerals.{add-one}
+use lib.Bits.{bitOr}
+use lib.Dec.{eqb}
 use lib.ListN.{getD}
+use borrow.Author.Tests.{eq-eqb, ne-eqb}
+use Rattle.plane.proofs.Tests.{lt-or-le}
 use Rattle.rows.specs.Cells.{bit}
-use Rattle.rows.proofs.RowBits.{bit-shr, bit-cut}
-use Rattle.plane_pack.specs.Groups.{Four, Eight, aboveBits}
+use Rattle.rows.proofs.RowBits.{bit-or, bit-past}
+use Rattle.planes.proofs.WholeBytes.{up-in, up-out}
+use Rattle.plane_pack.specs.Groups.{Four, Eight, laidBit}
 
--- a cell put under those of a byte
-under-rest : (a c q : ℕ) → q < 7 → bit (a % 128 * 2 + c % 2) (q + 1) ≡ bit a q
-under-rest a c q l =
-    let e : (a % 128 * 2 + c % 2) / 2 ^ 1 ≡ a % 128 = omega arith in
-    let f : 1 + q ≡ q + 1 = omega arith in
-    ap (λ (n : ℕ). bit (a % 128 * 2 + c % 2) n) (sym f) ∙ sym (bit-shr (a % 128 * 2 + c % 2) 1 q) ∙ ap (λ (n : ℕ). bit n q) e ∙ bit-cut a 7 q l
+-- a cell's lowest bit, moved up to bit j
+moved : (c j q : ℕ) → j < 8 → q < 8 → bit (c % 2 * 2 ^ j % 256) q ≡ cond (eqb q j) (c % 2) 0
+moved c j q l u = ⊎-elim
+    (λ (h : q < j). up-out (c % 2) j q h u ∙ rw (ne-eqb q j (λ e. omega arith)))
+    (λ (h : j ≤ q). up-in (c % 2) j q h u ∙ ⊎-elim
+    (λ (g : j < q). bit-past 1 (c % 2) (q - j) (omega arith) (omega arith) ∙ rw (ne-eqb q j (λ e. omega arith)))
+    (λ (g : q ≤ j). let e : q - j ≡ 0 = omega arith in rw (e, eq-eqb q j (omega arith)) (omega arith))
+    (lt-or-le j q))
+    (lt-or-le q j)
 
-pub under-bits : (a c q : ℕ) → q < 8 → bit (a % 128 * 2 + c % 2) q ≡ aboveBits c a q
-under-bits a c zero l = omega arith
-under-bits a c (suc q) l = ap (λ (n : ℕ). bit (a % 128 * 2 + c % 2) n) (sym (add-one q)) ∙ under-rest a c q (omega arith)
+pub laid-bit : (a c j q : ℕ) → j < 8 → q < 8 → bit (bitOr a (c % 2 * 2 ^ j % 256)) q ≡ laidBit a c j q
+laid-bit a c j q l u = bit-or a (c % 2 * 2 ^ j % 256) q ∙ ap (λ (n : ℕ). max (bit a q) n) (moved c j q l u)
 
--- and four above them
+-- four bits, and four above them
 two-fours : (u v : ℕ) → v < 16 → (bit (u * 16 + v) 0 ≡ bit v 0) × (bit (u * 16 + v) 1 ≡ bit v 1) × (bit (u * 16 + v) 2 ≡ bit v 2) × (bit (u * 16 + v) 3 ≡ bit v 3)
 two-fours u v l = (omega arith, omega arith, omega arith, omega arith)
 

@@ -62,8 +62,8 @@ unfolding seen
 same-seen s d d′ x z e = ap (λ (n : ℕ). bit n (z % 8)) e
 
 -- one group more
-module _ (v W H C R y p q : ℕ) (f d d′ : List ℕ) (hw : W ≤ C) (hy : y < H) (h8 : y % 8 ≡ 0) (hp : p ≡ (y / 8 + 1) * (C + 2) + 2) (hq : q ≡ y * W) (fits : W * H ≤ length f)
-    (hR : H ≤ R) (u : Until v W H C R y f d) (b : GroupPut W (H - y) p q f d d′) where
+module _ (v W H C R y p q : ℕ) (f d d′ : List ℕ) (hv : v ≤ 1) (hw : W ≤ C) (hy : y < H) (h8 : y % 8 ≡ 0) (hp : p ≡ (y / 8 + 1) * (C + 2) + 2) (hq : q ≡ y * W) (fits : W * H ≤ length f)
+    (hR : H ≤ R) (u : Until v W H C R y f d) (b : GroupPut W (H - y) p q (v * 255) f d d′) where
   -- the rows of the group
   abbrev r : ℕ
   r = min (H - y) 8
@@ -111,22 +111,11 @@ module _ (v W H C R y p q : ℕ) (f d d′ : List ℕ) (hw : W ≤ C) (hy : y < 
             ∙ sym (low-at f ((z - 8) * W + (x - 2)))
             ∙ sym (in-both v W H (lowBits f) x z w (omega arith) ∙ value-in v (lowBits f) W H (omega (arith, low-size f)) (x - 2) (z - 8) (omega arith) (omega arith))
 
-        -- above the frame's last row the byte keeps the value outside
-        old : r ≤ z % 8 → bit (getD d (p + (x - 2)) 0) (z % 8 - r) ≡ v
-        unfolding seen
-        old l =
-            let z' : ℕ = (y / 8 + 1) * 8 + (z % 8 - r) in
-            let e : z' / 8 ≡ y / 8 + 1 = omega arith in
-            let g : z' % 8 ≡ z % 8 - r = omega arith in
-            let i : p + (x - 2) ≡ z' / 8 * (C + 2) + x = omega (arith, ap (λ (n : ℕ). n * (C + 2)) e) in
-            ap (λ (n : ℕ). bit (getD d n 0) (z % 8 - r)) i
-            ∙ ap (λ (n : ℕ). bit (getD d (z' / 8 * (C + 2) + x) 0) n) (sym g)
-            ∙ u .at x z' lx (omega arith) ∙ rw (le-ltb z' (y + 8) (omega arith))
-
-        grouped : cond (ltb (z % 8) r) (getD f (q + (z % 8 * W + (x - 2))) 0 % 2) (bit (getD d (p + (x - 2)) 0) (z % 8 - r)) ≡ framed v W H f x z
+        -- above the frame's last row stands the value outside
+        grouped : cond (ltb (z % 8) r) (getD f (q + (z % 8 * W + (x - 2))) 0 % 2) (bit (v * 255) (z % 8 - r)) ≡ framed v W H f x z
         grouped = ⊎-elim
             (λ (l : z % 8 < r). rw (lt-ltb (z % 8) r l) (cell l))
-            (λ (l : r ≤ z % 8). rw (le-ltb (z % 8) r l) (old l ∙ sym (out-under v W H (lowBits f) x z (omega arith))))
+            (λ (l : r ≤ z % 8). rw (le-ltb (z % 8) r l) (one-value v (z % 8 - r) hv (omega arith) ∙ sym (out-under v W H (lowBits f) x z (omega arith))))
             (lt-or-le (z % 8) r)
 
         inside : seen (C + 2) d′ x z ≡ cond (ltb z (y + 8 + 8)) (framed v W H f x z) v

@@ -2,8 +2,8 @@
 use mathlib.Core.Path.{_≡_}
 use mathlib.Core.Bool.{cond}
 use mathlib.Core.List.{List}
-use Prim.Native.Nat.{ℕ, zero, suc, _+_, _-_, _*_, _%_, min, _<_, _≤_}
-use lib.Dec.{ltb}
+use Prim.Native.Nat.{ℕ, _+_, _-_, _*_, _%_, min, max, _<_, _≤_}
+use lib.Dec.{ltb, eqb}
 use lib.ListN.{length, getD}
 use Rattle.rows.specs.Cells.{bit}
 use Rattle.planes.specs.Planes.{planeSize}
@@ -27,19 +27,18 @@ pub record Eight (a b c d e f g h r : ℕ) : Type 0 where
   pub bit6 : bit r 6 ≡ g % 2
   pub bit7 : bit r 7 ≡ h % 2
 
--- bit q of a byte whose lowest bit is that of the cell c, with the bits of b above it
-abbrev pub aboveBits : ℕ → ℕ → ℕ → ℕ
-aboveBits c b zero = c % 2
-aboveBits c b (suc q) = bit b q
+-- bit q of the byte a after the lowest bit of the cell c was put into its bit j, which was 0
+abbrev pub laidBit : ℕ → ℕ → ℕ → ℕ → ℕ
+laidBit a c j q = max (bit a q) (cond (eqb q j) (c % 2) 0)
 
--- bit q of byte k of d after r rows of s, w cells a row, were put under it
-abbrev pub groupBit : List ℕ → List ℕ → ℕ → ℕ → ℕ → ℕ → ℕ
-groupBit d s w r k q = cond (ltb q r) (getD s (q * w + k) 0 % 2) (bit (getD d k 0) (q - r))
+-- bit q of byte k of r rows of s, w cells a row, with the bits of v above them
+abbrev pub groupBit : List ℕ → ℕ → ℕ → ℕ → ℕ → ℕ → ℕ
+groupBit s w r v k q = cond (ltb q r) (getD s (q * w + k) 0 % 2) (bit v (q - r))
 
--- the next rows of f from q on, w cells a row and at most 8 of the a that are left, were put under the bytes of d from p on
-pub record GroupPut (w a p q : ℕ) (f d d′ : List ℕ) : Type 0 where
+-- the next rows of f from q on, w cells a row and at most 8 of the a that are left, were put into the bytes of d from p on, with the bits of v above them
+pub record GroupPut (w a p q v : ℕ) (f d d′ : List ℕ) : Type 0 where
   pub len : length d′ ≡ length d
-  pub at : (k i : ℕ) → k < w → i < 8 → bit (getD d′ (p + k) 0) i ≡ cond (ltb i (min a 8)) (getD f (q + (i * w + k)) 0 % 2) (bit (getD d (p + k) 0) (i - min a 8))
+  pub at : (k i : ℕ) → k < w → i < 8 → bit (getD d′ (p + k) 0) i ≡ cond (ltb i (min a 8)) (getD f (q + (i * w + k)) 0 % 2) (bit v (i - min a 8))
   pub below : (k : ℕ) → k < p → getD d′ k 0 ≡ getD d k 0
   pub above : (k : ℕ) → p + w ≤ k → getD d′ k 0 ≡ getD d k 0
 

@@ -1,9 +1,10 @@
 // Up to eight rows of cells put into one row of bytes.
 ghost use mathlib.Core.Path.{_≡_};
-ghost use Prim.Native.Nat.{_+_, _*_, _%_, _≤_, min};
+ghost use Prim.Native.Nat.{ℕ, _+_, _*_, _%_, _<_, _≤_, min};
 ghost use lib.ListN.{length, getD};
+ghost use Rattle.rows.specs.Cells.{bit};
 ghost use Rattle.planes.specs.Bytes.{Bitted};
-ghost use Rattle.plane_pack.specs.Groups.{Four, Eight, aboveBits, groupBit, GroupPut};
+ghost use Rattle.plane_pack.specs.Groups.{Four, Eight, laidBit, groupBit, GroupPut};
 
 // The lowest bits of four cells, the first one's lowest.
 fn four(a: u8, b: u8, c: u8, d: u8) -> u8
@@ -56,40 +57,49 @@ fn halves(d: &mut [u8], s: &[u8], w: usize)
     eights(&mut d[n - h..n], &s[n - h..m], w);
 }
 
-// A row of cells put under those of d, of which the uppermost is dropped.
-fn under(d: &mut [u8], s: &[u8])
-    requires { ⌜ length (now d) ≤ length (now s) ⌝ }
-    ensures { λ _. ⌜ Bitted 0 (length (now (d .entry))) (λ k q. aboveBits (getD (now (s .entry)) k 0) (getD (now (d .entry)) k 0) q) (now (d .entry)) (now (d .exit)) ⌝ }
+// The lowest bit of the cell c put into bit j of a, which was 0.
+fn laid(a: u8, c: u8, j: usize) -> u8
+    requires { ⌜ j < 8 ⌝ }
+    ensures { λ r. ⌜ ((q : ℕ) → q < 8 → bit r q ≡ laidBit a c j q) ⌝ }
+{
+    a | (c % 2 << j)
+}
+
+// A row of cells put into bit j of the bytes of d.
+fn lay(d: &mut [u8], s: &[u8], j: usize)
+    requires { ⌜ (length (now d) ≤ length (now s)) × (j < 8) ⌝ }
+    ensures { λ _. ⌜ Bitted 0 (length (now (d .entry))) (λ k q. laidBit (getD (now (d .entry)) k 0) (getD (now (s .entry)) k 0) j q) (now (d .entry)) (now (d .exit)) ⌝ }
 {
     let mut k = 0;
     while k < d.len() {
-        d[k] = d[k] % 128 * 2 + s[k] % 2;
+        d[k] = laid(d[k], s[k], j);
         k += 1;
     }
 }
 
-// The first r rows of s, w cells a row, put under the cells of d, the last of them first.
-fn few(d: &mut [u8], s: &[u8], w: usize, r: usize)
-    requires { ⌜ (length (now d) ≤ w) × (r ≤ 8) × (r * w ≤ length (now s)) ⌝ }
-    ensures { λ _. ⌜ Bitted 0 (length (now (d .entry))) (groupBit (now (d .entry)) (now (s .entry)) w r) (now (d .entry)) (now (d .exit)) ⌝ }
+// Fewer than eight rows, one by one, with the bits of v above them. The first goes first: a loop that went down the rows would not be done many bytes at a time.
+fn few(d: &mut [u8], s: &[u8], w: usize, r: usize, v: u8)
+    requires { ⌜ (length (now d) ≤ w) × (r < 8) × (r * w ≤ length (now s)) ⌝ }
+    ensures { λ _. ⌜ Bitted 0 (length (now (d .entry))) (groupBit (now (s .entry)) w r v) (now (d .entry)) (now (d .exit)) ⌝ }
 {
-    let mut j = r;
-    while 0 < j {
-        j -= 1;
-        under(d, &s[j * w..j * w + w]);
+    runs::fill(d, v << r);
+    let mut j: usize = 0;
+    while j < r {
+        lay(d, &s[j * w..j * w + w], j);
+        j += 1;
     }
 }
 
-// The same, in one pass where there are eight.
-fn group(d: &mut [u8], s: &[u8], w: usize, r: usize)
+// Up to eight rows: in one pass where there are eight.
+fn group(d: &mut [u8], s: &[u8], w: usize, r: usize, v: u8)
     requires { ⌜ (length (now d) ≤ w) × (r ≤ 8) × (r * w ≤ length (now s)) ⌝ }
-    ensures { λ _. ⌜ Bitted 0 (length (now (d .entry))) (groupBit (now (d .entry)) (now (s .entry)) w r) (now (d .entry)) (now (d .exit)) ⌝ }
+    ensures { λ _. ⌜ Bitted 0 (length (now (d .entry))) (groupBit (now (s .entry)) w r v) (now (d .entry)) (now (d .exit)) ⌝ }
 {
     if r == 8 {
         halves(d, s, w);
         return;
     }
-    few(d, s, w, r);
+    few(d, s, w, r, v);
 }
 
 // How many rows a group has of which a rows are left.
@@ -102,11 +112,11 @@ fn rows(a: usize) -> usize
     8
 }
 
-// The next group, of which a rows are left: cells of f from q on, into the bytes of dst from p on.
-pub(crate) fn next(f: &[u8], dst: &mut [u8], w: usize, a: usize, p: usize, q: usize)
+// The next group, of which a rows are left: cells of f from q on, into the bytes of dst from p on, with the bits of v above them.
+pub(crate) fn next(f: &[u8], dst: &mut [u8], w: usize, a: usize, p: usize, q: usize, v: u8)
     requires { ⌜ (p + w ≤ length (now dst)) × (q + min a 8 * w ≤ length (now f)) ⌝ }
-    ensures { λ _. ⌜ GroupPut w a p q (now (f .entry)) (now (dst .entry)) (now (dst .exit)) ⌝ }
+    ensures { λ _. ⌜ GroupPut w a p q v (now (f .entry)) (now (dst .entry)) (now (dst .exit)) ⌝ }
 {
     let r = rows(a);
-    group(&mut dst[p..p + w], &f[q..q + r * w], w, r);
+    group(&mut dst[p..p + w], &f[q..q + r * w], w, r, v);
 }

@@ -31,12 +31,13 @@ fn fill(f: &[u8], dst: &mut [u8], w: usize, h: usize, gw: usize, gh: usize, outs
 {
     let s = gw + 2;
     let n = (gh + 7) / 8;
-    runs::fill(&mut dst[0..n * s + 2 * s + 2], outside * 255);
+    let v = outside * 255;
+    runs::fill(&mut dst[0..n * s + 2 * s + 2], v);
     let mut p = s + 2;
     let mut q: usize = 0;
     let mut y: usize = 0;
     while y < h {
-        groups::next(f, dst, w, h - y, p, q);
+        groups::next(f, dst, w, h - y, p, q, v);
         p += s;
         q += 8 * w;
         y += 8;

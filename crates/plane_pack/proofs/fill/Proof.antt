@@ -12,16 +12,19 @@ use Rattle.plane_pack.proofs.fill.Statement.{statement}
 use Rattle.plane_pack.proofs.fill.Tie as tie
 
 abbrev Inv-loop : tie.InvT-loop
-Inv-loop f dst₀ w h gw gh outside s n p₀ q₀ y₀ dst p q y = (y ≤ h + 7) × (y % 8 ≡ 0) × (p ≡ (y / 8 + 1) * (gw + 2) + 2) × (q ≡ y * w) × (planeSize gw gh ≤ length dst) × Until outside w h gw gh y f dst × Kept gw gh dst₀ dst
+Inv-loop f dst₀ w h gw gh outside s n v p₀ q₀ y₀ dst p q y = (y ≤ h + 7) × (y % 8 ≡ 0) × (p ≡ (y / 8 + 1) * (gw + 2) + 2) × (q ≡ y * w) × (planeSize gw gh ≤ length dst) × Until outside w h gw gh y f dst × Kept gw gh dst₀ dst
 
 abbrev μ-loop : tie.MeasureT-loop
-μ-loop f dst₀ w h gw gh outside s n p₀ q₀ y₀ dst p q y = h - y
+μ-loop f dst₀ w h gw gh outside s n v p₀ q₀ y₀ dst p q y = h - y
 
 add-s : tie.Need-add-s Inv-loop μ-loop
 add-s c = search needs
 
 add-n : tie.Need-add-n Inv-loop μ-loop
 add-n c = search needs
+
+mul-v : tie.Need-mul-v Inv-loop μ-loop
+mul-v c = search needs
 
 mul-fill : tie.Need-mul-fill Inv-loop μ-loop
 mul-fill c = search needs
@@ -43,9 +46,6 @@ part-fill-start c = search needs
 
 part-fill-end : tie.Need-part-fill-end Inv-loop μ-loop
 part-fill-end c = search needs
-
-mul-fill-3 : tie.Need-mul-fill-3 Inv-loop μ-loop
-mul-fill-3 c = search needs
 
 fill-requires : tie.Need-fill-requires Inv-loop μ-loop
 fill-requires c κs = search needs
@@ -93,7 +93,7 @@ loop-again c =
       omega (arith, add-mul (l .y / 8 + 1) 1 (a .gw + 2), ap (λ (n : ℕ). n * (a .gw + 2)) i),
       omega (arith, add-mul (l .y) 8 (a .w)),
       omega (arith, b .len),
-      until-more (a .outside) (a .w) (a .h) (a .gw) (a .gh) (l .y) (l .p) (l .q) (a .f .now) (l .dst) _ (omega arith) (omega arith) (omega arith) (omega arith) (omega arith) (omega arith) (omega arith) (l .inv .5) b,
+      until-more (a .outside) (a .w) (a .h) (a .gw) (a .gh) (l .y) (l .p) (l .q) (a .f .now) (l .dst) _ (omega arith) (omega arith) (omega arith) (omega arith) (omega arith) (omega arith) (omega arith) (omega arith) (l .inv .5) b,
       record { len = b .len ∙ l .inv .6 .len; past = λ k u. b .above k (omega arith) ∙ l .inv .6 .past k u },
     )
 
@@ -118,6 +118,7 @@ fill-spec =
     μ-loop
     add-s
     add-n
+    mul-v
     mul-fill
     mul-fill-2
     add-fill
@@ -125,7 +126,6 @@ fill-spec =
     sub-fill
     part-fill-start
     part-fill-end
-    mul-fill-3
     fill-requires
     add-p
     loop-holds

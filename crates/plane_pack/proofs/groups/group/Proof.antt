@@ -1,9 +1,9 @@
 -- Eight rows in one pass, or fewer one by one.
+use native.Mathlib.Omega.{arith}
+use borrow.Author.Needs.{needs}
 use mathlib.Core.Path.{ap}
 use Prim.Native.Nat.{ℕ, _*_}
 use Rattle.plane_pack.proofs.Grouping.{eight-all}
-use native.Mathlib.Omega.{arith}
-use borrow.Author.Needs.{needs}
 use Rattle.plane_pack.proofs.groups.group.Statement.{statement}
 use Rattle.plane_pack.proofs.groups.group.Tie as tie
 
@@ -14,7 +14,7 @@ same-length : tie.Need-same-length
 same-length c = search needs
 
 returns : tie.Need-returns
-returns c = let a = c .before .before .before .before .before .before .before .args in eight-all (a .d .now) (a .s .now) (a .w) (a .r) (c .before .before .before .before .if1 .taken) (c .before .before .halves .ensures)
+returns c = let a = c .before .before .before .before .before .before .before .args in eight-all (a .s .now) (a .w) (a .r) (a .v) (c .before .before .before .before .if1 .taken) (c .before .before .halves .ensures)
 
 few-requires : tie.Need-few-requires
 few-requires c κs = search needs
