@@ -12,7 +12,8 @@ use lib.IntN.{ℤ, pos, negsuc, _-ℤ_}
 use lib.ListN.{length, getD, drop, length-map, length-drop}
 use lib.Seq.{ext-getD, getD-drop}
 use borrow.Author.Tests.{le-leb}
-use Rattle.plane.specs.Point.{_+ᵖ_}
+use Rattle.plane.specs.Point.{Point, _+ᵖ_, negᵖ}
+use Rattle.plane.proofs.Algebra.{subᵖ-cancel}
 use Rattle.plane.proofs.Integer.{diff-ge}
 use Rattle.plane.proofs.Tests.{lt-or-le, not-or}
 use Rattle.grids.specs.Image.{valueAt, view, cells}
@@ -155,3 +156,21 @@ module _ (v C R : ℕ) (g p : List ℕ) (h : Shows C R (view v C R g) p) where
   pub shown-cut : (W H a b : ℕ) → cutOut v W H C R a b (planeCells C R p) ≡ cutOut v W H C R a b g
   unfolding cutOut
   shown-cut W H a b = ap (cells W H) (fun-ext (λ q. let r = q +ᵖ (pos a -ℤ pos 15, pos b -ℤ pos 15) in same-value (r .0) (r .1)))
+
+-- ---- every plane shows a picture, so that what is promised of a stage speaks of every plane
+
+natural : ℤ → ℕ
+natural (pos n) = n
+natural (negsuc n) = 0
+
+module _ (C R : ℕ) (p : List ℕ) where
+  -- what stands at each point that the plane has a bit for
+  pub planePicture : Point → ℕ
+  planePicture q = let r = q +ᵖ (pos 2, pos 8) in seen (C + 2) p (natural (r .0)) (natural (r .1))
+
+  pub every-plane : planeSize C R ≤ length p → Shows C R planePicture p
+  unfolding planePicture natural _+ᵖ_ negᵖ
+  every-plane l = record {
+    size = l;
+    at = λ x y lx ly. ap (λ (r : Point). seen (C + 2) p (natural (r .0)) (natural (r .1))) (sym (subᵖ-cancel (pos x, pos y) (pos 2, pos 8)));
+  }
