@@ -7,13 +7,14 @@ use native.Mathlib.Omega.{arith}
 use lib.Dec.{T, eqb, nltb→le}
 use lib.ListN.{length, getD, drop}
 use borrow.Author.Tests.{eqb-true}
+use Rattle.plane.specs.Lists.{In}
 use Rattle.plane.specs.Point.{Point}
 use Rattle.plane.proofs.Tests.{T-false, T-true, not-or, un-not}
 use Rattle.words.specs.Ground.{firstOf, stated, result}
 use Rattle.words.specs.Word.{placeX, placeY}
 use Rattle.words.specs.declared.Answer.{Answer}
 use Rattle.words.proofs.Refusals.{Clear, clear, unclear, clear-first, clear-last}
-use Rattle.shapes.specs.Plan.{planMasks, planTests, planOffset}
+use Rattle.shapes.specs.Plan.{planMasks, planTests, planOffset, planPoints}
 use Rattle.grids.specs.Image.{view}
 use Rattle.grids.specs.Frame.{free, badSize, badCell, gridSize, shortImage}
 use Rattle.grids.specs.Grid.{put, workTests}
@@ -22,9 +23,10 @@ use Rattle.frames.proofs.Sides.{sides}
 use Rattle.planes.specs.Planes.{Shows, packFits, FramePacked}
 use Rattle.planes.proofs.OnGrids.{low-bits, grid-pack, shown-cut}
 use Rattle.cleaning.specs.declared.Operation.{Operation}
-use Rattle.cleaning.specs.Operation.{lastGrid, inTurn}
-use Rattle.cleaning.specs.Cleaning.{resultImage, part, operationTests, Cleaned}
+use Rattle.cleaning.specs.Operation.{Direct, lastGrid, inTurn}
+use Rattle.cleaning.specs.Cleaning.{stagesRun, resultImage, part, operationTests, Cleaned}
 use Rattle.cleaning.proofs.Kept.{turn-length}
+use Rattle.cleaning.proofs.Plans.{accepted-direct}
 use Rattle.cleaning.proofs.Starts.{over-length, over-past, frame-in-grid, hand, hand-start}
 use Rattle.cleaner.specs.Turns.{standingImage, Shown, Room, Past, Ended}
 use Rattle.cleaner.specs.Cutting.{ahead, CutAway}
@@ -139,12 +141,17 @@ module _ (plan : List ℕ) (W H : ℕ) (f i j : List ℕ) (z : firstOf (operatio
             (ap (drop (gridSize W H)) cut-is ∙ over-past turned (resultImage n i₂ j₂) (W * H) (gridSize W H) size (frame-in-grid W H) result-long
             ∙ same-of (drop (gridSize W H)) even j i j₂ i₂ (pasts .1) (pasts .0))
 
+        -- the part for the number of stages that the plan says
+        counted : part (stagesRun op (length (planMasks plan))) W H i₃ j₃ ≡ turned
+        counted = ap (λ k. part k W H i₃ j₃) (sym (e .count)) ∙ handed
+
         pub ran : (s : Answer) → stated s ≡ result n → Cleaned op plan W H f i j s i₃ j₃
         ran s a = record {
           refused = λ q. absurd (q z);
           done = λ _. record {
             answer = a ∙ ap result (e .count);
-            handed = ap (λ k. part k W H i₃ j₃) (sym (e .count)) ∙ handed;
+            handed = counted;
+            direct = subst (Direct op W H f (In (planPoints plan))) (sym counted) (accepted-direct op plan W H f i j z);
             first-size = ends-sizes .0;
             first-past = ends-pasts .0;
             second-size = ends-sizes .1;

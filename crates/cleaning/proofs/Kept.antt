@@ -1,6 +1,6 @@
 -- The promise of the operations can be kept on every accepted plan, frame and pair of images: the result is written over the start of the image that the
 -- parity of the stages run names, and nothing else is touched.
-use mathlib.Core.Path.{_≡_, refl, _∙_, ap}
+use mathlib.Core.Path.{_≡_, refl, sym, _∙_, ap, subst}
 use mathlib.Core.Bool.{Bool, false, not, cond}
 use mathlib.Core.List.{List, _++_}
 use mathlib.Core.Logic.{_⊎_, inl, inr}
@@ -11,16 +11,18 @@ use lib.ListN.{length, drop}
 use Rattle.words.specs.declared.Answer.{Answer}
 use Rattle.words.specs.declared.Answer.the-variants.{Done}
 use Rattle.cleaning.specs.declared.Operation.{Operation}
+use Rattle.plane.specs.Lists.{In}
 use Rattle.plane.specs.Point.{Point}
 use Rattle.plane.proofs.Tests.{not-or, T-dec, T-true, T-false}
 use Rattle.words.specs.Ground.{firstOf}
 use Rattle.words.proofs.Refusals.{Clear, clear, clear-last}
-use Rattle.shapes.specs.Plan.{planOffset, planMasks, planTests}
+use Rattle.shapes.specs.Plan.{planOffset, planMasks, planPoints, planTests}
 use Rattle.grids.specs.Frame.{gridSize, badSize, shortImage}
 use Rattle.grids.specs.Grid.{grid, laid, workTests}
 use Rattle.grids.proofs.Pictures.{length-cells}
 use Rattle.cleaning.specs.Cleaning.{stagesRun, part, operationTests, Cleaned}
-use Rattle.cleaning.specs.Operation.{inTurn, outside, asRead, lastGrid, readAt}
+use Rattle.cleaning.specs.Operation.{Direct, inTurn, outside, asRead, lastGrid, readAt}
+use Rattle.cleaning.proofs.Plans.{accepted-direct}
 use Rattle.cleaning.proofs.Starts.{over-length, over-past, frame-in-grid, hand, hand-start}
 
 -- the single stages give as many cells as the frame has
@@ -84,7 +86,15 @@ can-clean op plan W H f i j e = go (T-dec even)
       j′,
       record {
         refused = λ z. absurd (z e);
-        done = λ _. record { answer = refl; handed = h; first-size = p .0; first-past = p .1; second-size = q .0; second-past = q .1 };
+        done = λ _. record {
+          answer = refl;
+          handed = h;
+          direct = subst (Direct op W H f (In (planPoints plan))) (sym h) (accepted-direct op plan W H f i j e);
+          first-size = p .0;
+          first-past = p .1;
+          second-size = q .0;
+          second-past = q .1;
+        };
       },
     )
 

@@ -103,6 +103,13 @@ whole-set Erosion P f b = E-set P f b
 whole-set Opening P f b = ≐-trans (D-set P (over true P f) (over-binary true P f b)) (⊕-cong (E-set P f b) (≐-refl (In P)))
 whole-set Closing P f b = ≐-trans (E-set P (over false P f) (over-binary false P f b)) (⊖-cong (D-set P f b) (≐-refl (In P)))
 
+-- one pass: the frame through all the stages, by one kind
+pub passed : (erode : Bool) (W H : ℕ) (f ms : List ℕ) → T (all stage ms) → Small ms → ((i : ℕ) → getD f i 0 ≤ 1)
+    → grid free W H (through (once erode free W H) ms (put W H f)) ≡ over erode (sumOf ms) (frame free W H f)
+passed erode W H f ms t s v =
+    let F = frame free W H f in
+    turn erode W H ms F (put W H f) (frame-binary W H f v) (kept erode W H ms F t s (frame-within W H f)) (put-whole W H f)
+
 pub last-whole : (op : Operation) (W H : ℕ) (f ms : List ℕ) → T (all stage ms) → Small ms → ((i : ℕ) → getD f i 0 ≤ 1)
     → grid free W H (lastGrid op W H ms (put W H f)) ≡ whole op (sumOf ms) (frame free W H f)
 unfolding lastGrid
@@ -118,7 +125,7 @@ last-whole op W H f ms t s v = go op
     w = frame-within W H f
 
     one : (erode : Bool) → grid free W H (through (once erode free W H) ms (put W H f)) ≡ over erode (sumOf ms) F
-    one erode = turn erode W H ms F (put W H f) b (kept erode W H ms F t s w) (put-whole W H f)
+    one erode = passed erode W H f ms t s v
 
     go : (op : Operation) → grid free W H (lastGrid op W H ms (put W H f)) ≡ whole op (sumOf ms) F
     go Dilation = one false
@@ -133,7 +140,7 @@ last-whole op W H f ms t s v = go op
 -- ---- directly
 
 -- a cell that is 1 exactly where P holds, and never above 1, says whether P
-says : (v : ℕ) (P : Type 0) → v ≤ 1 → (v ≡ 1 ↔ P) → Says v P
+pub says : (v : ℕ) (P : Type 0) → v ≤ 1 → (v ≡ 1 ↔ P) → Says v P
 says v P h e = go (ℕ-discrete v 1)
   where
     go : Dec (v ≡ 1) → ((v ≡ 1) × P) ⊎ ((v ≡ 0) × ¬ P)

@@ -5,12 +5,13 @@ use mathlib.Core.List.{List, [], _++_}
 use Prim.Native.Nat.{ℕ, _*_, _%_}
 use lib.Dec.{ltb, eqb}
 use lib.ListN.{length, take, drop}
+use Rattle.plane.specs.Lists.{In}
 use Rattle.words.specs.Ground.{Test, stated, result, Answered}
 use Rattle.words.specs.declared.Answer.{Answer}
-use Rattle.shapes.specs.Plan.{planTests, planMasks, planOffset}
+use Rattle.shapes.specs.Plan.{planTests, planMasks, planOffset, planPoints}
 use Rattle.grids.specs.Frame.{badSize, gridSize}
 use Rattle.grids.specs.Grid.{workTests}
-use Rattle.cleaning.specs.Operation.{inTurn}
+use Rattle.cleaning.specs.Operation.{Direct, inTurn}
 use Rattle.cleaning.specs.declared.Operation.{Operation}
 use Rattle.cleaning.specs.declared.Operation.the-variants.{Dilation, Erosion, Opening, Closing}
 
@@ -38,10 +39,11 @@ abbrev pub operationTests : List ℕ → ℕ → ℕ → List ℕ → List ℕ �
 operationTests plan W H f i j = planTests plan ++ workTests W H f i j
 
 -- an operation ran on the images i and j, which then are i′ and j′: it answers the number of stages run, the part that will be handed back is what the
--- single stages give in turn, and bytes past the first (W + 15) × (H + 15) of each image are unchanged
+-- single stages give in turn and what the plan's points give directly, and bytes past the first (W + 15) × (H + 15) of each image are unchanged
 pub record Ran (op : Operation) (plan : List ℕ) (W H : ℕ) (f i j : List ℕ) (r : Answer) (i′ j′ : List ℕ) : Type 0 where
   pub answer : stated r ≡ result (stagesRun op (length (planMasks plan)))
   pub handed : part (stagesRun op (length (planMasks plan))) W H i′ j′ ≡ inTurn op W H f (planOffset plan) (planMasks plan)
+  pub direct : Direct op W H f (In (planPoints plan)) (part (stagesRun op (length (planMasks plan))) W H i′ j′)
   pub first-size : length i′ ≡ length i
   pub first-past : drop (gridSize W H) i′ ≡ drop (gridSize W H) i
   pub second-size : length j′ ≡ length j

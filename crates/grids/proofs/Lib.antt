@@ -2,4 +2,5 @@ pub mod Fold
 pub mod Pictures
 pub mod Stage
 pub mod Putting
+pub mod Load
 pub mod Examples

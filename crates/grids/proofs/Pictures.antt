@@ -3,16 +3,16 @@ use mathlib.Core.Path.{_≡_, refl, sym, _∙_, ap, ap₂, subst}
 use mathlib.Core.Logic.{_↔_}
 use mathlib.Core.Bool.{Bool, true, false, not, cond, _&&_}
 use mathlib.Core.List.{List, _++_, map}
-use Prim.Native.Nat.{ℕ, zero, suc, _+_, _*_, _≤_, _<_}
+use Prim.Native.Nat.{ℕ, zero, suc, _+_, _*_, _/_, _%_, _≤_, _<_}
 use native.Mathlib.Omega.{arith}
-use native.Mathlib.Nat.{add-zero, add-suc, suc-add, mul-comm, mul-le-mul-right, not-suc-le-zero, le-of-suc-le-suc}
+use native.Mathlib.Nat.{add-zero, add-suc, suc-add, mul-comm, mul-le-mul-right, mod-lt, div-add-mod', div-lt-iff-lt-mul, not-suc-le-zero, le-of-suc-le-suc}
 use lib.Dec.{T, ltb, ltb→lt, lt→ltb}
 use lib.IntN.{ℤ, pos, negsuc, _+ℤ_, +ℤ-idr}
 use lib.ListN.{length, getD, length-map, List·getD-append, length-append}
-use lib.Seq.{getD-append-add}
+use lib.Seq.{ext-getD, getD-append-add}
 use Rattle.plane.specs.Lists.{flat, countFrom, upTo}
 use Rattle.plane.specs.Point.{Point, _+ᵖ_}
-use Rattle.plane.proofs.Tests.{T-and, cond-ind, clash}
+use Rattle.plane.proofs.Tests.{T-and, T-true, cond-ind, clash}
 use Rattle.grids.specs.Image.{valueAt, view, cells}
 
 -- inside W columns and H rows
@@ -27,6 +27,18 @@ inside W H p = insideZ W H (p .0) (p .1)
 pub length-count : (k n : ℕ) → length (countFrom k n) ≡ n
 length-count k zero = refl
 length-count k (suc n) = ap suc (length-count (suc k) n)
+
+-- a product with something below it has a first factor
+first-factor : (W H i : ℕ) → i < W * H → 0 < W
+first-factor zero H i l = absurd (omega arith)
+first-factor (suc W) H i l = omega arith
+
+-- what holds at the place of each column and row holds at every place below W × H
+pub at-places : (W H : ℕ) (P : ℕ → Type 0) → ((x y : ℕ) → x < W → y < H → P (y * W + x)) → (i : ℕ) → i < W * H → P i
+at-places W H P h i l =
+    let some = first-factor W H i l in
+    let ly : i / W < H = div-lt-iff-lt-mul {x = i} {y = H} some .1 (omega (arith, mul-comm W H)) in
+    subst P (div-add-mod' i W) (h (i % W) (i / W) (mod-lt i some) ly)
 
 module _ {A : Type 0} where
   getD-count : (g : ℕ → A) (k n x : ℕ) (v : A) → x < n → getD (map g (countFrom k n)) x v ≡ g (k + x)
@@ -78,6 +90,22 @@ module _ {A : Type 0} where
 
   pub view-cells : (v : A) (W H : ℕ) (f : Point → A) (p : Point) → view v W H (cells W H f) p ≡ cond (inside W H p) (f p) v
   view-cells v W H f p = viewZ v W H f (p .0) (p .1)
+
+  -- as many values as W × H are those of the picture that they are
+  pub cells-view : (v : A) (W H : ℕ) (l : List A) → length l ≡ W * H → cells W H (view v W H l) ≡ l
+  unfolding valueAt
+  cells-view v W H l e =
+      ext-getD v (cells W H F) l (size ∙ sym e)
+      (λ i h. at-places W H (λ k. getD (cells W H F) k v ≡ getD l k v) (λ x y a b. getD-cells W H F x y v a b ∙ here x y a b) i (subst (λ n. i < n) size h))
+    where
+      F : Point → A
+      F = view v W H l
+
+      size : length (cells W H F) ≡ W * H
+      size = length-cells W H F ∙ mul-comm H W
+
+      here : (x y : ℕ) → x < W → y < H → F (pos x, pos y) ≡ getD l (y * W + x) v
+      here x y a b = ap (λ t. cond t (getD l (y * W + x) v) v) (T-true (ltb x W && ltb y H) (T-and (ltb x W) (ltb y H) .1 (lt→ltb x W a, lt→ltb y H b)))
 
   -- what stands past the rows of values is not read
   pub view-starts : (v : A) (W H : ℕ) (g r : List A) → W * H ≤ length g → (p : Point) → view v W H (g ++ r) p ≡ view v W H g p

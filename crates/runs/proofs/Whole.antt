@@ -1,17 +1,17 @@
 -- An image whose cells are given one by one is, as a list, the cells of a picture followed by what stood past them.
-use mathlib.Core.Path.{_≡_, refl, sym, _∙_, ap, subst}
+use mathlib.Core.Path.{_≡_, refl, sym, _∙_, ap}
 use mathlib.Core.Logic.{⊎-elim}
 use mathlib.Core.List.{List, [], _∷_, _++_}
-use Prim.Native.Nat.{ℕ, zero, suc, _+_, _-_, _*_, _/_, _%_, _<_, _≤_}
+use Prim.Native.Nat.{ℕ, zero, suc, _+_, _-_, _*_, _<_, _≤_}
 use native.Mathlib.Omega.{arith}
-use native.Mathlib.Nat.{mul-comm, mod-lt, div-add-mod', div-lt-iff-lt-mul, not-suc-le-zero, le-of-suc-le-suc}
+use native.Mathlib.Nat.{mul-comm, mul-le-mul-right, not-suc-le-zero, le-of-suc-le-suc}
 use lib.IntN.{pos}
 use lib.ListN.{length, getD, drop, length-append, length-drop, List·getD-append}
 use lib.Seq.{ext-getD, getD-append-add, getD-drop}
 use Rattle.plane.specs.Point.{Point}
 use Rattle.plane.proofs.Tests.{lt-or-le}
 use Rattle.grids.specs.Image.{cells}
-use Rattle.grids.proofs.Pictures.{getD-cells, length-cells}
+use Rattle.grids.proofs.Pictures.{at-places, getD-cells, length-cells}
 use Rattle.runs.specs.Runs.{Laid}
 
 -- within a list it does not matter what is read past its end
@@ -19,11 +19,6 @@ pub getD-any : (l : List ℕ) (n a b : ℕ) → n < length l → getD l n a ≡ 
 getD-any [] n a b h = absurd (not-suc-le-zero h)
 getD-any (x ∷ l) zero a b h = refl
 getD-any (x ∷ l) (suc n) a b h = getD-any l n a b (le-of-suc-le-suc h)
-
--- a product with something below it has a first factor
-first-factor : (w h i : ℕ) → i < w * h → 0 < w
-first-factor zero h i l = absurd (omega arith)
-first-factor (suc w) h i l = omega arith
 
 module _ (w h : ℕ) (f : Point → ℕ) {F : ℕ → ℕ → ℕ} {d d' : List ℕ} (q : (x y : ℕ) → x < w → y < h → F x y ≡ f (pos x, pos y)) (fits : w * h ≤ length d) (t : Laid F w h d d') where
   size : length (cells w h f) ≡ w * h
@@ -33,15 +28,12 @@ module _ (w h : ℕ) (f : Point → ℕ) {F : ℕ → ℕ → ℕ} {d d' : List 
   as-long = simp (length-append, length-drop, size) (omega (arith, t .len))
 
   inside : (i : ℕ) → i < w * h → getD d' i 0 ≡ getD (cells w h f ++ drop (w * h) d) i 0
-  inside i l =
-      let lx : i % w < w = mod-lt i (first-factor w h i l) in
-      let ly : i / w < h = div-lt-iff-lt-mul {x = i} {y = h} (first-factor w h i l) .1 (omega (arith, mul-comm w h)) in
-      let e : i / w * w + i % w ≡ i = div-add-mod' i w in
-      subst (λ (j : ℕ). getD d' j 0 ≡ getD (cells w h f ++ drop (w * h) d) j 0) e
-      (t .at (i % w) (i / w) lx ly
-      ∙ q (i % w) (i / w) lx ly
-      ∙ sym (getD-cells w h f (i % w) (i / w) 0 lx ly)
-      ∙ sym (List·getD-append (cells w h f) (drop (w * h) d) 0 (i / w * w + i % w) (omega (arith, size))))
+  inside = at-places w h (λ j. getD d' j 0 ≡ getD (cells w h f ++ drop (w * h) d) j 0) (λ x y lx ly.
+      let m = mul-le-mul-right {m = suc y} {n = h} w ly in
+      t .at x y lx ly
+      ∙ q x y lx ly
+      ∙ sym (getD-cells w h f x y 0 lx ly)
+      ∙ sym (List·getD-append (cells w h f) (drop (w * h) d) 0 (y * w + x) (omega (arith, size, mul-comm w h))))
 
   past : (i : ℕ) → w * h ≤ i → getD d' i 0 ≡ getD (cells w h f ++ drop (w * h) d) i 0
   past i l =
