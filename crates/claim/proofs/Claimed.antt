@@ -1,4 +1,4 @@
--- The claim of the one function that plans, cleans and hands back, from what it does call by call: demand 1 for its refusals, demand 3 for its results.
+-- The claim of the one function that plans and cleans, from what it does call by call: demand 1 for its refusals, demand 3 for its results.
 use mathlib.Core.Path.{_≡_, sym, _∙_, ap, subst}
 use mathlib.Core.Logic.{_⊎_, inl, inr, _≢_}
 use mathlib.Core.Bool.{not, cond}

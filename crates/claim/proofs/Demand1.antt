@@ -7,7 +7,7 @@ use Prim.Native.Nat.{ℕ}
 use lib.Dec.{T, eqb, eqb→eq}
 use Rattle.words.specs.declared.Answer.{Answer}
 use Rattle.plane.proofs.Tests.{T-dec, clash, eq-eqb}
-use Rattle.words.specs.Ground.{Test, firstOf, stated, result, Answered, refusal}
+use Rattle.words.specs.Ground.{Test, firstOf, stated, result, Answered}
 use Rattle.words.specs.Word.{stageMask}
 use Rattle.shapes.specs.Calls.{ListWritten, movedPoints, movingTests, joinedPoints, joiningTests, summedPoints, summingTests, turningTests}
 use Rattle.shapes.specs.Plan.{planPoints}
@@ -15,7 +15,7 @@ use Rattle.planning.specs.Planning.{planningTests, Planned, PlanWritten, Unplan
 use Rattle.grids.specs.Frame.{frameTests, load, free}
 use Rattle.grids.specs.Grid.{putTests, stageTests, GridWritten, put, once}
 use Rattle.cleaning.specs.Cleaning.{operationTests, Ran}
-use Rattle.claim.specs.Demand1.{First, Demand1}
+use Rattle.claim.specs.Demand1.{First, NoChain, Demand1}
 
 -- the number in what an answer says
 ground : {a b : ℕ × ℕ} → a ≡ b → a .0 ≡ b .0
@@ -30,17 +30,17 @@ first tests r U W a w = go (T-dec (eqb (firstOf tests) 0))
 
 -- planning: another ground, 10, or a plan
 plan-first : (ws out : List ℕ) (r : Answer) (out′ : List ℕ) → Planned ws out r out′
-    → First (planningTests ws out) r (out′ ≡ out) ⊎ ((firstOf (planningTests ws out) ≡ 0) × (stated r ≡ refusal 10) × (out′ ≡ out))
+    → First (planningTests ws out) r (out′ ≡ out) ⊎ NoChain ws out r out′
 plan-first ws out r out′ a = go (T-dec (eqb n 0))
   where
     n : ℕ
     n = firstOf (planningTests ws out)
 
     Says : Type 0
-    Says = First (planningTests ws out) r (out′ ≡ out) ⊎ ((n ≡ 0) × (stated r ≡ refusal 10) × (out′ ≡ out))
+    Says = First (planningTests ws out) r (out′ ≡ out) ⊎ NoChain ws out r out′
 
     written : n ≡ 0 → Unplannable ws out r out′ ⊎ PlanWritten ws out r out′ → Says
-    written e (inl u) = inr (e, u .answer, u .kept)
+    written e (inl u) = inr (record { first = e; none = u .none; answer = u .answer; kept = u .kept })
     written e (inr w) = let z = ground (w .answer) in inl (z ∙ sym e, λ k. absurd (k z))
 
     go : T (eqb n 0) ⊎ T (not (eqb n 0)) → Says

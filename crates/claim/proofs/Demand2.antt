@@ -25,8 +25,8 @@ use Rattle.shapes.proofs.Written.{plan-points}
 use Rattle.planning.specs.Planning.{Shape}
 use Rattle.cleaning.specs.Cleaning.{Cleaned, operationTests, part}
 use Rattle.cleaning.specs.Operation.{Direct}
-use Rattle.cleaning.proofs.Plans.{accepted-direct}
 use Rattle.claim.specs.Demand2.{Demand2}
+use Rattle.claim.proofs.Cells.{put-shown, stage-shown, load-counted}
 
 stands : (A : List Point) (out out′ : List ℕ) (r : Answer) → T (not (outOfRange A)) → ListWritten A out r out′ → Shape (take (stated r .1) out′) ≐ In A
 stands A out out′ r fit w =
@@ -60,8 +60,7 @@ pub part-direct : (op : Operation) (plan : List ℕ) (W H : ℕ) (f i j : List �
     → firstOf (operationTests plan W H f i j) ≡ 0 → Direct op W H f (In (planPoints plan)) (part (stated s .1) W H i′ j′)
 part-direct op plan W H f i j s i′ j′ c e =
     let ran = c .done e in
-    let turns = ap (λ a. part (a .1) W H i′ j′) (ran .answer) ∙ ran .handed in
-    subst (Direct op W H f (In (planPoints plan))) (sym turns) (accepted-direct op plan W H f i j e)
+    subst (λ a. Direct op W H f (In (planPoints plan)) (part (a .1) W H i′ j′)) (sym (ran .answer)) (ran .direct)
 
 pub demand2 : Demand2
 demand2 = record {
@@ -70,4 +69,7 @@ demand2 = record {
   summing = λ ws vs out r out′ a e. ≐-trans (stands (summedPoints ws vs) out out′ r (summed-fits ws vs out e) (a .done e)) (sums-is (shapePoints ws) (shapePoints vs));
   turning = λ ws out r out′ a e. ≐-trans (stands (planPoints ws) out out′ r (turned-fits ws out e) (a .done e)) (plan-points ws);
   cleaning = part-direct;
+  putting = put-shown;
+  staging = stage-shown;
+  counting = load-counted;
 }

@@ -1,7 +1,9 @@
 pub mod Demand1
+pub mod Cells
 pub mod Demand2
 pub mod Demand3
 pub mod RoundTrip
 pub mod Kept
 pub mod Claimed
 pub mod Measured
+pub mod Examples

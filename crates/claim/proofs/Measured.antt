@@ -34,7 +34,7 @@ use Rattle.planning.proofs.Printed.{printed-plan}
 use Rattle.grids.specs.Frame.{badSize, badCell, gridSize, shortImage}
 use Rattle.grids.specs.Grid.{once, workTests}
 use Rattle.grids.specs.Image.{cells, valueAt}
-use Rattle.cleaning.specs.Cleaning.{}
+use Rattle.cleaning.specs.Cleaning.{stagesRun}
 use Rattle.cleaning.specs.Operation.{inTurn, lastGrid, Direct}
 use Rattle.cleaning.proofs.Kept.{can-clean}
 use Rattle.cleaning.proofs.Plans.{binary}
@@ -45,7 +45,7 @@ use Rattle.claim.proofs.Demand3.{runs, agrees}
 -- ---- planning
 
 -- a shape list that passes its grounds is accepted with any output list of 32 words or more
-accepts : (ws : List ℕ) → firstOf (shapeTests ws) ≡ 0 → (out : List ℕ) → 32 ≤ length out → firstOf (planningTests ws out) ≡ 0
+pub accepts : (ws : List ℕ) → firstOf (shapeTests ws) ≡ 0 → (out : List ℕ) → 32 ≤ length out → firstOf (planningTests ws out) ≡ 0
 unfolding shapeTests
 accepts ws e out h =
     unclear (planningTests ws out) (clear-append (shapeTests ws) ((9, shortOutput 32 out) ∷ []) (clear (shapeTests ws) tt e) (not-ltb (length out) 32 h, tt))
@@ -89,18 +89,20 @@ row-accepted f i j b c h k =
     times-one n = omega arith
 
 -- an accepted shape with a picked plan, and a row: what the stages give in turn is what is handed back
-cleans-as : (op : Operation) (ws : List ℕ) (d : Point) (ms f r : List ℕ) → firstOf (shapeTests ws) ≡ 0 → Picked stage (Shape ws) d ms
-    → T (not (badSize (length f) 1)) → T (not (badCell f)) → inTurn op (length f) 1 f d ms ≡ r → CleanedAs op ws (planWords d ms) f r
+cleans-as : (op : Operation) (ws : List ℕ) (d : Point) (ms f : List ℕ) (n : ℕ) (r : List ℕ) → firstOf (shapeTests ws) ≡ 0 → Picked stage (Shape ws) d ms
+    → T (not (badSize (length f) 1)) → T (not (badCell f)) → stagesRun op (length ms) ≡ n → inTurn op (length f) 1 f d ms ≡ r
+    → CleanedAs op ws (planWords d ms) f n r
 unfolding shapeTests
-cleans-as op ws d ms f r e P b c t =
+cleans-as op ws d ms f n r e P b c k t =
     let S = accepted-shape ws (clear (shapeTests ws) tt e) in
     let Q = P .plan in
     let W = length f in
     record {
       plans = plans-as ws d ms e P;
       direct = subst (Direct op W 1 f (Shape ws)) t (turn-direct op W 1 f d ms (Shape ws) (Q .stages) (sum-small ws S d ms Q) (binary f c) (Q .sum));
-      possible = λ i j h k. can-clean op (planWords d ms) W 1 f i j (runs ws S d ms Q W 1 f i j (row-accepted f i j b c h k));
-      handed = λ i j h k s i′ j′ q. agrees ws S d ms Q op W 1 f i j s i′ j′ (row-accepted f i j b c h k) q .turns ∙ t;
+      possible = λ i j h l. can-clean op (planWords d ms) W 1 f i j (runs ws S d ms Q W 1 f i j (row-accepted f i j b c h l));
+      answer = λ i j h l s i′ j′ q. agrees ws S d ms Q op W 1 f i j s i′ j′ (row-accepted f i j b c h l) q .answer ∙ ap result k;
+      handed = λ i j h l s i′ j′ q. agrees ws S d ms Q op W 1 f i j s i′ j′ (row-accepted f i j b c h l) q .turns ∙ t;
     }
 
 -- ---- the shapes of one row that the frames are cleaned with
@@ -166,9 +168,9 @@ measured = record {
   eight = plans-as eightWords origin (17 ∷ 33 ∷ 129 ∷ []) refl eight;
   eight-points = refl;
   eight-allowed = refl;
-  closed = cleans-as Closing threeWords origin (7 ∷ []) (1 ∷ 0 ∷ 1 ∷ []) (1 ∷ 1 ∷ 1 ∷ []) refl threePicked tt tt refl;
-  eroded = cleans-as Erosion twoWords origin (3 ∷ []) (1 ∷ 1 ∷ []) (1 ∷ 0 ∷ []) refl twoPicked tt tt refl;
-  eroded-three = cleans-as Erosion twoWords origin (3 ∷ []) (1 ∷ 1 ∷ 0 ∷ []) (1 ∷ 0 ∷ 0 ∷ []) refl twoPicked tt tt refl;
-  eroded-point = cleans-as Erosion rightWords right [] (1 ∷ 0 ∷ 0 ∷ []) (0 ∷ 0 ∷ 0 ∷ []) refl rightPicked tt tt refl;
-  opened-point = cleans-as Opening rightWords right [] (1 ∷ 0 ∷ 0 ∷ []) (1 ∷ 0 ∷ 0 ∷ []) refl rightPicked tt tt refl;
+  closed = cleans-as Closing threeWords origin (7 ∷ []) (1 ∷ 0 ∷ 1 ∷ []) 2 (1 ∷ 1 ∷ 1 ∷ []) refl threePicked tt tt refl refl;
+  eroded = cleans-as Erosion twoWords origin (3 ∷ []) (1 ∷ 1 ∷ []) 1 (1 ∷ 0 ∷ []) refl twoPicked tt tt refl refl;
+  eroded-three = cleans-as Erosion twoWords origin (3 ∷ []) (1 ∷ 1 ∷ 0 ∷ []) 1 (1 ∷ 0 ∷ 0 ∷ []) refl twoPicked tt tt refl refl;
+  eroded-point = cleans-as Erosion rightWords right [] (1 ∷ 0 ∷ 0 ∷ []) 0 (0 ∷ 0 ∷ 0 ∷ []) refl rightPicked tt tt refl refl;
+  opened-point = cleans-as Opening rightWords right [] (1 ∷ 0 ∷ 0 ∷ []) 0 (1 ∷ 0 ∷ 0 ∷ []) refl rightPicked tt tt refl refl;
 }

@@ -8,8 +8,9 @@ use Prim.Native.Nat.{ℕ}
 use Rattle.plane.specs.Point.{Point}
 use Rattle.words.specs.Ground.{Test, firstOf, stated, refusal}
 use Rattle.words.specs.declared.Answer.{Answer}
+use Rattle.masks.specs.Chain.{Chain}
 use Rattle.shapes.specs.Calls.{Moved, movingTests, Joined, joiningTests, Summed, summingTests, TurnedBack, turningTests}
-use Rattle.planning.specs.Planning.{planningTests, Planned}
+use Rattle.planning.specs.Planning.{Shape, member, planningTests, Planned}
 use Rattle.grids.specs.Frame.{frameTests, LoadCounted}
 use Rattle.grids.specs.Grid.{putTests, FramePut, stageTests, Staged}
 use Rattle.cleaning.specs.Cleaning.{operationTests, Cleaned}
@@ -20,14 +21,21 @@ use Rattle.cleaning.specs.declared.Operation.{Operation}
 abbrev pub First : List Test → Answer → Type 0 → Type 0
 First tests r Unchanged = (stated r .0 ≡ firstOf tests) × (stated r .0 ≢ 0 → Unchanged)
 
--- call by call; planning has one ground more, 10, which is tried where no other holds
+-- planning has one ground more, 10: no other ground holds, and no list of subsets of the square, of any length and with any offset, sums to the shape
+pub record NoChain (ws out : List ℕ) (r : Answer) (out′ : List ℕ) : Type 0 where
+  pub first : firstOf (planningTests ws out) ≡ 0
+  pub none : ¬ Chain member (Shape ws)
+  pub answer : stated r ≡ refusal 10
+  pub kept : out′ ≡ out
+
+-- call by call
 pub record Demand1 : Type 0 where
   pub moving : (ws : List ℕ) (d : Point) (out : List ℕ) (r : Answer) (out′ : List ℕ) → Moved ws d out r out′ → First (movingTests ws d out) r (out′ ≡ out)
   pub joining : (ws vs out : List ℕ) (r : Answer) (out′ : List ℕ) → Joined ws vs out r out′ → First (joiningTests ws vs out) r (out′ ≡ out)
   pub summing : (ws vs out : List ℕ) (r : Answer) (out′ : List ℕ) → Summed ws vs out r out′ → First (summingTests ws vs out) r (out′ ≡ out)
   pub turning : (ws out : List ℕ) (r : Answer) (out′ : List ℕ) → TurnedBack ws out r out′ → First (turningTests ws out) r (out′ ≡ out)
   pub planning : (ws out : List ℕ) (r : Answer) (out′ : List ℕ) → Planned ws out r out′
-      → First (planningTests ws out) r (out′ ≡ out) ⊎ ((firstOf (planningTests ws out) ≡ 0) × (stated r ≡ refusal 10) × (out′ ≡ out))
+      → First (planningTests ws out) r (out′ ≡ out) ⊎ NoChain ws out r out′
   pub counting : (W H : ℕ) (f : List ℕ) (r : Answer) → LoadCounted W H f r → stated r .0 ≡ firstOf (frameTests W H f)
   pub putting : (W H : ℕ) (f i : List ℕ) (r : Answer) (i′ : List ℕ) → FramePut W H f i r i′ → First (putTests W H f i) r (i′ ≡ i)
   pub staging : (erode : Bool) (w W H : ℕ) (g i : List ℕ) (r : Answer) (i′ : List ℕ) → Staged erode w W H g i r i′ → First (stageTests w W H g i) r (i′ ≡ i)

@@ -1,21 +1,41 @@
 -- The owner's demand 2: sums, dilation, erosion, opening and closing are those of Minkowski's definitions on the plane, cut to the frame only at the end;
--- shape and plan lists are read and written exactly as laid out. The layouts themselves are shapePoints, planPoints, listed and planWords of shapes.
+-- shape and plan lists are read and written exactly as laid out. The layouts themselves are shapePoints, planPoints, listed and planWords of shapes. The single
+-- stage, putting and the load are what the plane says of the grid or frame that they read.
 use mathlib.Core.Path.{_≡_}
 use mathlib.Core.Logic.{_⊎_}
+use mathlib.Core.Bool.{Bool, true, false}
 use mathlib.Core.List.{List}
-use Prim.Native.Nat.{ℕ}
-use lib.ListN.{take}
-use Rattle.plane.specs.Lists.{In}
-use Rattle.plane.specs.Point.{Point, _≐_, _⊕_, moved}
-use Rattle.words.specs.Ground.{firstOf, stated}
+use Prim.Native.Nat.{ℕ, _+_, _*_, _<_}
+use lib.Dec.{eqb}
+use lib.IntN.{pos}
+use lib.ListN.{length, getD, take, drop}
+use Rattle.plane.specs.Lists.{In, keep}
+use Rattle.plane.specs.Point.{Point, PointSet, _≐_, _⊕_, moved, dilation, erosion}
+use Rattle.words.specs.Ground.{firstOf, stated, result}
+use Rattle.words.specs.Word.{stageMask}
 use Rattle.words.specs.declared.Answer.{Answer}
 use Rattle.masks.specs.Chain.{sumOf}
+use Rattle.masks.specs.Mask.{maskPoints}
 use Rattle.shapes.specs.Plan.{planPoints, planOffset, planMasks}
 use Rattle.shapes.specs.Calls.{Moved, movingTests, Joined, joiningTests, Summed, summingTests, TurnedBack, turningTests}
 use Rattle.planning.specs.Planning.{Shape}
-use Rattle.cleaning.specs.Operation.{Direct}
+use Rattle.grids.specs.Frame.{free, full, frame, occupied, gridSize, frameTests, LoadCounted}
+use Rattle.grids.specs.Grid.{grid, putTests, FramePut, stageTests, Staged}
+use Rattle.grids.specs.Image.{cells}
+use Rattle.cleaning.specs.Operation.{Says, Direct}
 use Rattle.cleaning.specs.Cleaning.{operationTests, part, Cleaned}
 use Rattle.cleaning.specs.declared.Operation.{Operation}
+
+-- the image i then is i′, which shows the set S on its grid: cell (x, y) is 1 if (x, y) lies in S, and 0 if not; the length and the bytes past the grid are as before
+pub record Shown (W H : ℕ) (S : PointSet) (i i′ : List ℕ) : Type 0 where
+  pub size : length i′ ≡ length i
+  pub past : drop (gridSize W H) i′ ≡ drop (gridSize W H) i
+  pub cell : (x y : ℕ) → x < W + 15 → y < H + 15 → Says (getD i′ (y * (W + 15) + x) 0) (S (pos x, pos y))
+
+-- the set that a single stage makes of X and the points A of its mask
+abbrev pub stageMade : Bool → PointSet → PointSet → PointSet
+stageMade true X A = erosion X A
+stageMade false X A = dilation X A
 
 pub record Demand2 : Type 0 where
   -- the words written, as many as the length returned, stand for exactly the points moved, joined or summed, or for those of the plan
@@ -31,3 +51,11 @@ pub record Demand2 : Type 0 where
   -- definitions make of the frame and the plan's points
   pub cleaning : (op : Operation) (plan : List ℕ) (W H : ℕ) (f i j : List ℕ) (s : Answer) (i′ j′ : List ℕ) → Cleaned op plan W H f i j s i′ j′
       → firstOf (operationTests plan W H f i j) ≡ 0 → Direct op W H f (In (planPoints plan)) (part (stated s .1) W H i′ j′)
+  -- putting shows the frame's occupied points; a single stage those of the grid read, dilated or eroded by the mask's, with the plane free outside the grid
+  pub putting : (W H : ℕ) (f i : List ℕ) (r : Answer) (i′ : List ℕ) → FramePut W H f i r i′ → firstOf (putTests W H f i) ≡ 0
+      → Shown W H (occupied (frame free W H f)) i i′
+  pub staging : (erode : Bool) (w W H : ℕ) (g i : List ℕ) (r : Answer) (i′ : List ℕ) → Staged erode w W H g i r i′ → firstOf (stageTests w W H g i) ≡ 0
+      → Shown W H (stageMade erode (occupied (grid free W H g)) (In (maskPoints (stageMask w)))) i i′
+  -- the load is the number of the frame's points that are occupied
+  pub counting : (W H : ℕ) (f : List ℕ) (r : Answer) → LoadCounted W H f r → firstOf (frameTests W H f) ≡ 0
+      → stated r ≡ result (length (keep (λ p. eqb (frame free W H f p) full) (cells W H (λ p. p))))

@@ -72,13 +72,15 @@ rightWords = 0x10000000 ∷ 0x20000002 ∷ []
 
 -- ---- frames of one row
 
--- the frame f cleaned with the shape list ws is r: directly, and as the part that is handed back for the operation's answer, given the shape's plan and
--- whatever the work images held
-pub record CleanedAs (op : Operation) (ws plan f r : List ℕ) : Type 0 where
+-- the frame f cleaned with the shape list ws is r: directly, and as the part that is handed back for the operation's answer, the number n of stages run, given the
+-- shape's plan and whatever the work images held
+pub record CleanedAs (op : Operation) (ws plan f : List ℕ) (n : ℕ) (r : List ℕ) : Type 0 where
   pub plans : PlannedAs ws plan
   pub direct : Direct op (length f) 1 f (Shape ws) r
   pub possible : (i j : List ℕ) → gridSize (length f) 1 ≤ length i → gridSize (length f) 1 ≤ length j
       → (s : Answer) × (i′ : List ℕ) × (j′ : List ℕ) × Cleaned op plan (length f) 1 f i j s i′ j′
+  pub answer : (i j : List ℕ) → gridSize (length f) 1 ≤ length i → gridSize (length f) 1 ≤ length j
+      → (s : Answer) (i′ j′ : List ℕ) → Cleaned op plan (length f) 1 f i j s i′ j′ → stated s ≡ result n
   pub handed : (i j : List ℕ) → gridSize (length f) 1 ≤ length i → gridSize (length f) 1 ≤ length j
       → (s : Answer) (i′ j′ : List ℕ) → Cleaned op plan (length f) 1 f i j s i′ j′ → part (stated s .1) (length f) 1 i′ j′ ≡ r
 
@@ -102,10 +104,10 @@ pub record Measured : Type 0 where
       ≡ ((pos 0, pos 0) ∷ (pos 1, pos 1) ∷ (pos 2, pos 1) ∷ (pos 1, pos 2) ∷ (pos 3, pos 2) ∷ (pos 2, pos 3) ∷ (pos 3, pos 3) ∷ (pos 4, pos 4) ∷ [])
   pub eight-allowed : (max (width (shapePoints eightWords)) (height (shapePoints eightWords)) + 1) / 2 ≡ 2
   -- 1 0 1 closed by columns 0–2
-  pub closed : CleanedAs Closing threeWords (0x30000001 ∷ 0x40000f0f ∷ 0x50000007 ∷ []) (1 ∷ 0 ∷ 1 ∷ []) (1 ∷ 1 ∷ 1 ∷ [])
+  pub closed : CleanedAs Closing threeWords (0x30000001 ∷ 0x40000f0f ∷ 0x50000007 ∷ []) (1 ∷ 0 ∷ 1 ∷ []) 2 (1 ∷ 1 ∷ 1 ∷ [])
   -- 1 1 eroded by columns 0–1; the same on 1 1 0
-  pub eroded : CleanedAs Erosion twoWords (0x30000001 ∷ 0x40000f0f ∷ 0x50000003 ∷ []) (1 ∷ 1 ∷ []) (1 ∷ 0 ∷ [])
-  pub eroded-three : CleanedAs Erosion twoWords (0x30000001 ∷ 0x40000f0f ∷ 0x50000003 ∷ []) (1 ∷ 1 ∷ 0 ∷ []) (1 ∷ 0 ∷ 0 ∷ [])
+  pub eroded : CleanedAs Erosion twoWords (0x30000001 ∷ 0x40000f0f ∷ 0x50000003 ∷ []) (1 ∷ 1 ∷ []) 1 (1 ∷ 0 ∷ [])
+  pub eroded-three : CleanedAs Erosion twoWords (0x30000001 ∷ 0x40000f0f ∷ 0x50000003 ∷ []) (1 ∷ 1 ∷ 0 ∷ []) 1 (1 ∷ 0 ∷ 0 ∷ [])
   -- one cell (1,0): 1 0 0 eroded, and opened
-  pub eroded-point : CleanedAs Erosion rightWords (0x30000000 ∷ 0x40000f10 ∷ []) (1 ∷ 0 ∷ 0 ∷ []) (0 ∷ 0 ∷ 0 ∷ [])
-  pub opened-point : CleanedAs Opening rightWords (0x30000000 ∷ 0x40000f10 ∷ []) (1 ∷ 0 ∷ 0 ∷ []) (1 ∷ 0 ∷ 0 ∷ [])
+  pub eroded-point : CleanedAs Erosion rightWords (0x30000000 ∷ 0x40000f10 ∷ []) (1 ∷ 0 ∷ 0 ∷ []) 0 (0 ∷ 0 ∷ 0 ∷ [])
+  pub opened-point : CleanedAs Opening rightWords (0x30000000 ∷ 0x40000f10 ∷ []) (1 ∷ 0 ∷ 0 ∷ []) 0 (1 ∷ 0 ∷ 0 ∷ [])

@@ -1,5 +1,5 @@
--- Demand 3 as the promise of one function that plans the shape list ws, runs an operation on a frame with the words that planning wrote, and hands back
--- the part p: a single claim from the shape list to the result. What it answers is s: the number of a refusal and the number of stages run, one of them 0.
+-- Demand 3 as the promise of one function that plans the shape list ws and runs an operation on a frame with the words that planning wrote; p is the part that
+-- is handed back for its answer: a single claim from the shape list to the result. What it answers is s: the number of a refusal and that of stages run, one 0.
 use mathlib.Core.Path.{_≡_}
 use mathlib.Core.Logic.{_⊎_, _≢_}
 use mathlib.Core.Bool.{cond}

@@ -1,0 +1,104 @@
+-- What the demands say on cases, each read off the demand alone: a demand that is loosened, or says another thing, no longer gives them.
+use mathlib.Core.Path.{_≡_, refl, sym, _∙_, ap}
+use mathlib.Core.Logic.{inl, inr, ⊎-elim}
+use mathlib.Core.Bool.{false}
+use mathlib.Core.List.{List, [], _∷_}
+use Prim.Native.Nat.{ℕ, _+_, _≤_}
+use native.Mathlib.Omega.{arith}
+use lib.IntN.{pos}
+use lib.ListN.{length, take, getD, replicate}
+use Rattle.plane.specs.Point.{_+ᵖ_, negᵖ, origin}
+use Rattle.words.specs.Ground.{stated, result, refusal}
+use Rattle.words.specs.declared.Answer.{Answer}
+use Rattle.masks.specs.Chain.{Chain, subset}
+use Rattle.masks.specs.Mask.{stage, maskCells}
+use Rattle.masks.proofs.Measured.{four}
+use Rattle.shapes.specs.Calls.{TurnedBack}
+use Rattle.shapes.specs.Shape.{shapePoints, shapeTests}
+use Rattle.planning.specs.Planning.{Shape, Planned, PlanWritten}
+use Rattle.grids.specs.Frame.{frameTests, LoadCounted}
+use Rattle.grids.specs.Grid.{once, putTests, FramePut, stageTests, Staged}
+use Rattle.grids.specs.Image.{cells, valueAt}
+use Rattle.cleaning.specs.Cleaning.{part}
+use Rattle.cleaning.specs.Operation.{inTurn, lastGrid}
+use Rattle.cleaning.specs.declared.Operation.the-variants.{Closing}
+use Rattle.claim.specs.Demand1.{Demand1}
+use Rattle.claim.specs.Demand2.{Demand2}
+use Rattle.claim.specs.Demand3.{Demand3, Agrees, Decided, Served}
+use Rattle.claim.specs.Measured.{fourWords, threeWords}
+use Rattle.claim.specs.RoundTrip.{RoundTrip}
+use Rattle.claim.specs.Whole.{handedFor}
+use Rattle.claim.proofs.Measured.{accepts}
+
+-- the row of four cells has a chain of two members
+four-chain : (c : Chain subset (Shape fourWords)) × (length (c .members) ≡ 2)
+unfolding shapePoints _+ᵖ_ negᵖ
+four-chain = (record { members = 3 ∷ 5 ∷ []; offset = origin; masks = tt; sum = four .plan .sum }, refl)
+
+-- ---- demand 1
+
+-- a cell of 2: ground 13, and the image is as it was
+put-refused : Demand1 → (r : Answer) (i′ : List ℕ) → FramePut 1 1 (2 ∷ []) (replicate 256 7) r i′ → (stated r .0 ≡ 13) × (i′ ≡ replicate 256 7)
+unfolding frameTests putTests
+put-refused D r i′ p =
+    let d = D .putting 1 1 (2 ∷ []) (replicate 256 7) r i′ p in
+    (d .0, d .1 (λ z. let n : _≡_ {A = ℕ} 13 0 = sym (d .0) ∙ z in omega arith))
+
+-- the row of four cells is not refused by 10
+four-not-ten : Demand1 → (out : List ℕ) → 32 ≤ length out → (r : Answer) (out′ : List ℕ) → Planned fourWords out r out′ → stated r ≡ refusal 10 → ⊥
+unfolding shapeTests
+four-not-ten D out h r out′ p t = ⊎-elim
+    (λ f. let n : _≡_ {A = ℕ} 10 0 = sym (ap (λ a. a .0) t) ∙ f .0 ∙ accepts fourWords refl out h in omega arith)
+    (λ n. n .none (four-chain .0))
+    (D .planning fourWords out r out′ p)
+
+-- ---- demand 2
+
+-- the cell (0, 0) dilated by columns 0 and 1 has the cell (1, 0)
+stage-right : Demand2 → (r : Answer) (i′ : List ℕ) → Staged false 0x50000003 1 1 (1 ∷ replicate 255 0) (replicate 257 7) r i′ → getD i′ 1 0 ≡ 1
+unfolding stageTests stage maskCells valueAt _+ᵖ_ negᵖ
+stage-right D r i′ p = ⊎-elim
+    (λ q. q .0)
+    (λ q. absurd (q .1 ((pos 0, pos 0), (pos 1, pos 0), refl, inr (inl refl), refl)))
+    (D .staging false 0x50000003 1 1 (1 ∷ replicate 255 0) (replicate 257 7) r i′ p refl .cell 1 0 (omega arith) (omega arith))
+
+-- one column of two rows, the second occupied, is so in the grid
+put-right : Demand2 → (r : Answer) (i′ : List ℕ) → FramePut 1 2 (0 ∷ 1 ∷ []) (replicate 273 7) r i′ → getD i′ 16 0 ≡ 1
+unfolding frameTests putTests valueAt
+put-right D r i′ p = ⊎-elim (λ q. q .0) (λ q. absurd (q .1 refl)) (D .putting 1 2 (0 ∷ 1 ∷ []) (replicate 273 7) r i′ p refl .cell 0 1 (omega arith) (omega arith))
+
+counts-two : Demand2 → (r : Answer) → LoadCounted 3 1 (1 ∷ 0 ∷ 1 ∷ []) r → stated r ≡ result 2
+unfolding frameTests cells valueAt
+counts-two D r p = D .counting 3 1 (1 ∷ 0 ∷ 1 ∷ []) r p refl
+
+-- ---- demand 3
+
+-- the row of four cells: a chain has two members, so at most four words are answered
+four-short : Demand3 → (out : List ℕ) → 32 ≤ length out → (r : Answer) (out′ : List ℕ) → Planned fourWords out r out′ → stated r .1 ≤ 4
+unfolding shapeTests
+four-short D out h r out′ p = go (D fourWords out r out′ p (accepts fourWords refl out h))
+  where
+    few : Served fourWords out r out′ → stated r .1 ≤ 4
+    few s = let l = s .fewest (four-chain .0) in let k = four-chain .1 in let a : stated r .1 ≡ length (s .stages) + 2 = ap (λ a. a .1) (s .answer) in omega arith
+
+    go : Decided fourWords out r out′ → stated r .1 ≤ 4
+    go d = ⊎-elim (λ t. absurd (d .none .0 t (four-chain .0))) few (d .plan)
+
+-- 1 0 1 closed by columns 0 to 2: two stages, and the part is 1 1 1
+closed-agrees : (s : Answer) (i′ j′ : List ℕ) → Agrees Closing threeWords origin (7 ∷ []) 3 1 (1 ∷ 0 ∷ 1 ∷ []) s i′ j′
+    → (stated s ≡ result 2) × (part (stated s .1) 3 1 i′ j′ ≡ 1 ∷ 1 ∷ 1 ∷ [])
+unfolding inTurn lastGrid once cells valueAt maskCells _+ᵖ_ negᵖ
+closed-agrees s i′ j′ a = (a .answer, a .turns)
+
+-- a refusal hands nothing back
+nothing-handed : handedFor (13, 0) 1 1 (1 ∷ []) (1 ∷ []) ≡ []
+unfolding part
+nothing-handed = refl
+
+-- ---- the round trip
+
+-- 17 words are enough for what is turned back
+four-back : RoundTrip → (r : Answer) (out′ : List ℕ) → PlanWritten fourWords (replicate 32 0) r out′ → (s : Answer) (back′ : List ℕ)
+    → TurnedBack (take (stated r .1) out′) (replicate 17 0) s back′ → stated s .0 ≡ 0
+unfolding shapeTests
+four-back R r out′ w s back′ t = ap (λ a. a .0) (R fourWords (replicate 32 0) r out′ refl w (replicate 17 0) s back′ (omega arith) t .answer)
