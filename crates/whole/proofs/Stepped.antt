@@ -1,15 +1,15 @@
--- What follows from the case of planning's answer, and of the operation's.
+-- What follows from the case of planning's answer.
 use mathlib.Core.Path.{_≡_, refl, sym, _∙_, ap, subst}
 use mathlib.Core.Logic.{_⊎_, inl, inr, _≢_}
 use mathlib.Core.Bool.{not}
-use mathlib.Core.List.{List, []}
+use mathlib.Core.List.{List}
 use Prim.Native.Nat.{ℕ, _+_, _-_, _≤_}
 use native.Mathlib.Nat.{sub-zero}
 use native.Mathlib.Omega.{arith}
 use lib.Dec.{T, eqb, eqb→eq}
 use lib.ListN.{length, take, drop, length-append, length-map}
 use Rattle.plane.proofs.Tests.{T-dec, clash, eq-eqb}
-use Rattle.words.specs.Ground.{firstOf, stated, numberOf}
+use Rattle.words.specs.Ground.{firstOf, stated}
 use Rattle.words.specs.Word.{stageWord}
 use Rattle.words.specs.declared.Answer.{Answer}
 use Rattle.words.specs.declared.Answer.the-variants.{Done, Refused}
@@ -17,9 +17,9 @@ use Rattle.words.specs.declared.Ground.{Ground}
 use Rattle.words.proofs.Refusals.{refused-some}
 use Rattle.shapes.specs.Plan.{planWords}
 use Rattle.planning.specs.Planning.{planningTests, Planned, Unplannable, PlanWritten}
-use Rattle.cleaning.specs.Cleaning.{part, Cleaned}
+use Rattle.cleaning.specs.Cleaning.{Cleaned}
 use Rattle.cleaning.specs.declared.Operation.{Operation}
-use Rattle.claim.specs.Whole.{Claim, handedFor, Steps}
+use Rattle.claim.specs.Whole.{Steps}
 
 -- the operation that was called is the one that was asked for
 pub called-as : {o op : Operation} {plan : List ℕ} {W H : ℕ} {f i j : List ℕ} {r : Answer} {i′ j′ : List ℕ} → op ≡ o → Cleaned o plan W H f i j r i′ j′ → Cleaned op plan W H f i j r i′ j′
@@ -70,19 +70,3 @@ module _ {ws own own′ : List ℕ} (r : Answer) where
       stops = λ k. absurd (k (done-zero e));
       cleans = λ _. subst (λ k. Cleaned op (take k own′) W H f i j s i′ j′) (sub-zero n ∙ ap (λ a. stated a .1) (sym e)) c;
     }
-
--- ---- what is handed back
-
-module _ {op : Operation} {ws : List ℕ} {W H : ℕ} {f i j p : List ℕ} (r : Answer) where
-  -- nothing with a refusal
-  pub nothing-handed : {g : Ground} {n : ℕ} {h : List ℕ} → r ≡ Refused g → n ≡ numberOf g → p ≡ [] → Claim op ws W H f i j (stated r) h → Claim op ws W H f i j (n, 0) p
-  nothing-handed {g} {n} e m q c =
-      let some : stated r .0 ≢ 0 = λ z. refused-some g 0 (ap (λ k. (k, 0)) (ap (λ a. stated a .0) (sym e) ∙ z)) refl in
-      let said : stated r ≡ (n, 0) = ap stated e ∙ ap (λ k. (k, 0)) (sym m) in
-      subst (λ s. Claim op ws W H f i j s p) said (subst (Claim op ws W H f i j (stated r)) (c .empty some ∙ sym q) c)
-
-  -- the part for the number answered
-  pub part-handed : {n : ℕ} (i′ j′ : List ℕ) → r ≡ Done n → p ≡ part n W H i′ j′ → Claim op ws W H f i j (stated r) (handedFor (stated r) W H i′ j′) → Claim op ws W H f i j (0, n) p
-  part-handed {n} i′ j′ e q c =
-      let d : Claim op ws W H f i j (stated (Done n)) (handedFor (stated (Done n)) W H i′ j′) = subst (λ a. Claim op ws W H f i j (stated a) (handedFor (stated a) W H i′ j′)) e c in
-      subst (Claim op ws W H f i j (0, n)) (sym q) d

@@ -1,5 +1,5 @@
-// Demand 3 as one function: it plans a shape, runs one of the four operations on a frame with exactly the words that planning wrote, and hands back the part.
-// What it promises is one statement, Claim in claim/specs/Whole.
+// Demand 3 as one function: it plans a shape and runs one of the four operations on a frame with exactly the words that planning wrote. What it promises is one
+// statement, Claim in claim/specs/Whole, of its answer and of the part that `parts::part` hands back for it; and Lent there, of the work images.
 use cleaning::Operation;
 use words::Answer;
 ghost use Rattle.words.specs.Ground.{stated};
@@ -49,7 +49,8 @@ fn steps(
     }
 }
 
-// The operation with the shape's own plan: the number of stages run, or the refusal. The plan list is its own, so that a refusal changes nothing lent.
+// The operation with the shape's own plan: the number of stages run, for which the part is handed back, or the refusal. The plan list is its own, so that a
+// refusal changes nothing lent.
 pub fn run(
     op: Operation,
     shape: &[u32],
@@ -64,35 +65,4 @@ pub fn run(
 {
     let mut plan: [u32; 32] = [0; 32];
     steps(op, shape, &mut plan, w, h, frame, first, second)
-}
-
-// The same, and the part handed back: nothing with a refusal. The refusal's number, or 0, goes to ground, and the number of stages run, or 0, to stages.
-pub fn clean<'a>(
-    op: Operation,
-    shape: &[u32],
-    w: usize,
-    h: usize,
-    frame: &[u8],
-    first: &'a mut [u8],
-    second: &'a mut [u8],
-    ground: &mut u32,
-    stages: &mut u32,
-) -> &'a [u8]
-    ensures { λ r. ⌜ Claim op (now (shape .entry)) w h (now (frame .entry)) (now (first .entry)) (now (second .entry)) (now (ground .exit), now (stages .exit)) (now r) ⌝ }
-{
-    let answered = run(op, shape, w, h, frame, first, second);
-    let a = &first[..];
-    let b = &second[..];
-    match answered {
-        Answer::Refused(g) => {
-            *ground = words::number(g);
-            *stages = 0;
-            parts::part(0, 0, 0, a, b)
-        }
-        Answer::Done(n) => {
-            *ground = 0;
-            *stages = n;
-            parts::part(n as usize, w, h, a, b)
-        }
-    }
 }
