@@ -12,11 +12,12 @@ use Rattle.completions.proofs.Stepping.{below-fills, stepped-fills}
 
 module _ (nums cand target rest path : List ℕ) (len : ℕ) (need : List ℕ) (m k : ℕ) where
   -- no state below
-  opened-no : (target′ rest′ path′ : List ℕ) (len′ : ℕ) (need′ : List ℕ) → (Room nums cand len k → (permitted : ℕ → Bool) → Ready permitted nums target rest path len need → Allowed permitted cand → T (permitted m)
+  opened-no : (Room nums cand len k → (permitted : ℕ → Bool) → Ready permitted nums target rest path len need → Allowed permitted cand → T (permitted m)
       → (L : List ℕ) → Fills permitted (At target) (Sum (AtSum (chosen path len)) (AtMask m)) L → From cand (length cand) L → length L ≤ k → ⊥)
-      → Opened nums cand target rest path len need m k false target′ rest′ path′ len′ need′
-  opened-no target′ rest′ path′ len′ need′ f = record {
+      → Opened nums cand target rest path len need m k false target rest path len need
+  opened-no f = record {
     outside = λ _. refl;
+    back = λ _. (refl, refl, refl, refl, refl);
     same = λ e. absurd (false≢true e);
     longer = λ e. absurd (false≢true e);
     falls = λ e. absurd (false≢true e);
@@ -25,23 +26,24 @@ module _ (nums cand target rest path : List ℕ) (len : ℕ) (need : List ℕ) (
   }
 
   -- out of bounds
-  pub opened-outside : (target′ rest′ path′ : List ℕ) (len′ : ℕ) (need′ : List ℕ) → (Room nums cand len k → ⊥) → Opened nums cand target rest path len need m k false target′ rest′ path′ len′ need′
-  opened-outside target′ rest′ path′ len′ need′ f = opened-no target′ rest′ path′ len′ need′ (λ r. absurd (f r))
+  pub opened-outside : (Room nums cand len k → ⊥) → Opened nums cand target rest path len need m k false target rest path len need
+  opened-outside f = opened-no (λ r. absurd (f r))
 
   module _ (ok : Bool) (target′ rest′ path′ : List ℕ) (len′ : ℕ) (need′ : List ℕ) (st : Stepped nums target rest path len need m ok target′ rest′ path′ len′ need′) where
     -- the mask is passed over
     pub opened-passed : ok ≡ false → Opened nums cand target rest path len need m k false target rest path len need
-    opened-passed e = opened-no target rest path len need (λ room permitted r a t L f b q. st .no e permitted r t L f)
+    opened-passed e = opened-no (λ room permitted r a t L f b q. st .no e permitted r t L f)
 
     -- nothing completes the sum below
     pub opened-none : ok ≡ true → NoneHere nums target′ rest′ path′ len′ need′ cand k → Opened nums cand target rest path len need m k false target rest path len need
-    opened-none e h = opened-no target rest path len need (λ room permitted r a t L f b q.
+    opened-none e h = opened-no (λ room permitted r a t L f b q.
         h .no permitted (st .ready e permitted r t) a .no L (stepped-fills _ _ _ _ _ _ _ _ _ _ _ _ _ st e permitted L f) b q)
 
     -- the state below
     pub opened-yes : ok ≡ true → Room nums cand len k → Opened nums cand target rest path len need m k ok target′ rest′ path′ len′ need′
     opened-yes e room = record {
       outside = λ f. absurd (f room);
+      back = λ d. absurd (true≢false (sym e ∙ d));
       same = st .same;
       longer = st .longer;
       falls = st .falls;

@@ -15,9 +15,10 @@ pub record Room (nums cand : List ℕ) (len k : ℕ) : Type 0 where
   pub list : length cand ≤ 512
   pub path : len + k < 32
 
--- the partial sum below by the mask m, or that k masks of the list or fewer do not complete the sum with m
+-- the partial sum below by the mask m, or that k masks of the list or fewer do not complete the sum with m, with the state as it was
 pub record Opened (nums cand target rest path : List ℕ) (len : ℕ) (need : List ℕ) (m k : ℕ) (ok : Bool) (target′ rest′ path′ : List ℕ) (len′ : ℕ) (need′ : List ℕ) : Type 0 where
   pub outside : (Room nums cand len k → ⊥) → ok ≡ false
+  pub back : ok ≡ false → (target′ ≡ target) × (rest′ ≡ rest) × (path′ ≡ path) × (len′ ≡ len) × (need′ ≡ need)
   pub same : ok ≡ true → target′ ≡ target
   pub longer : ok ≡ true → (chosen path′ len′ ≡ m ∷ chosen path len) × (len′ ≡ len + 1)
   pub falls : ok ≡ true → getD need′ 16 0 + getD need′ 17 0 < getD need 16 0 + getD need 17 0

@@ -1,5 +1,5 @@
 -- The first and the last cell of a row: the zeros below its lowest bit, and those above its highest, say where they are.
-use mathlib.Core.Path.{_≡_, sym, ap, subst, _∙_}
+use mathlib.Core.Path.{_≡_, refl, sym, ap, subst, _∙_}
 use Prim.Native.Nat.{ℕ, zero, suc, _+_, _-_, _*_, _/_, _%_, _^_, _≤_, _<_}
 use native.Mathlib.Omega.{arith}
 use native.Mathlib.Nat.{pow-suc, div-lt-iff-lt-mul, le-div-iff-mul-le}
@@ -44,3 +44,8 @@ first-of (suc k) row p l = let e : 2 ^ suc k ≡ 2 ^ k * 2 = pow-suc 2 k in go (
     go : (row % 2 ≡ 0 → FirstIn (row / 2) (trailingZeros k (row / 2))) → (d : ℕ) → row % 2 ≡ d → FirstIn row (under d (trailingZeros k (row / 2)))
     go half zero z = let t = trailingZeros k (row / 2) in record { cell = sym (half-bit row t) ∙ half z .cell; all = after z t (half z) }
     go half (suc d) z = record { cell = omega arith; all = λ x h. omega arith }
+
+-- a row without a cell has sixteen zeros
+pub none-16 : trailingZeros 16 0 ≡ 16
+unfolding trailingZeros
+none-16 = refl

@@ -7,11 +7,12 @@ use Prim.Native.Nat.{ℕ, _+_, _*_, _≤_, _<_}
 use native.Mathlib.Omega.{arith}
 use native.Mathlib.Nat.{mul-add, mul-le-mul-left}
 use lib.ListN.{getD, replicate}
-use Rattle.rows.specs.Cells.{At, bit}
+use Rattle.rows.specs.Cells.{At, Same, bit}
 use Rattle.rows.proofs.RowBits.{no-bit}
 use Rattle.rows.proofs.Sums.{Rows16, in-x, in-y, last-or, zero-at}
 use Rattle.edges.specs.Edges.{plusX, minusX, ahead, behind, Top, firstOf, secondOf, middleOf, timesOf, Number}
-use Rattle.edges.specs.Numbers.{FirstIn, LastIn, Greater, Raised, Attained, Clipped, Topped, RowTopped, Fits, Within, Numbered}
+use Rattle.edges.specs.Numbers.{FirstIn, LastIn, Greater, Raised, Attained, Clipped, Topped, RowTopped, Fits, Front, Numbered}
+use Rattle.edges.proofs.Adding.{number-same}
 use Rattle.edges.proofs.Directions.{ahead-small, behind-small, one-way, inside, balance}
 
 -- ---- a row more
@@ -139,14 +140,15 @@ module _ (cells : List ℕ) (w : Rows16 cells) (n : ℕ) (s : List ℕ) (tops : 
               (small-top (secondOf i) second-in) (tops (middleOf i) middle-in .all (a .x) (a .y) (a .cell) (a .before));
         }
 
-  -- where all cells lie before row n, the greatest values are those of the whole set
-  top-of : Within cells n → (i : ℕ) (l : i < 16) → Top i (At cells) (attained i l .x) (attained i l .y)
-  top-of h i l = let a = attained i l in
-      record { cell = a .cell; above = λ u v g. let q = tops i l .all u v g (h .before u v g) in omega (arith, a .at) }
+  top-of : (i : ℕ) (l : i < 16) → Top i (Front cells n) (attained i l .x) (attained i l .y)
+  top-of i l = let a = attained i l in record {
+    cell = record { cell = a .cell; before = a .before };
+    above = λ u v g. let q = tops i l .all u v (g .cell) (g .before) in omega (arith, a .at);
+  }
 
-  pub number-of : Within cells n → (i : ℕ) → i < 18 → (v : ℕ)
-      → v + (timesOf i * getD s (middleOf i) 0 + 128) ≡ getD s (firstOf i) 0 + getD s (secondOf i) 0 + timesOf i * 64 → Number i (At cells) v
-  number-of h i l v e =
+  pub number-of : (i : ℕ) → i < 18 → (v : ℕ)
+      → v + (timesOf i * getD s (middleOf i) 0 + 128) ≡ getD s (firstOf i) 0 + getD s (secondOf i) 0 + timesOf i * 64 → Number i (Front cells n) v
+  number-of i l v e =
       let a = attained (firstOf i) (first-in i l) in
       let b = attained (secondOf i) (second-in i l) in
       let c = attained (middleOf i) (middle-in i l) in
@@ -157,26 +159,34 @@ module _ (cells : List ℕ) (w : Rows16 cells) (n : ℕ) (s : List ℕ) (tops : 
         y2 = b .y;
         x3 = c .x;
         y3 = c .y;
-        first = top-of h (firstOf i) (first-in i l);
-        second = top-of h (secondOf i) (second-in i l);
-        middle = top-of h (middleOf i) (middle-in i l);
+        first = top-of (firstOf i) (first-in i l);
+        second = top-of (secondOf i) (second-in i l);
+        middle = top-of (middleOf i) (middle-in i l);
         value = value-of (timesOf i) _ _ _ _ _ _ _ _ _ v (a .at) (b .at) (c .at) e;
       }
 
 -- ---- rows before n that the window has
 module _ (cells : List ℕ) (w : Rows16 cells) (n k : ℕ) (c : Clipped n k) (s : List ℕ) (tops : (i : ℕ) → i < 16 → Topped i cells k (getD s i 0)) where
-  within : Within cells n → Within cells k
-  within h = record { x = h .x; y = h .y; cell = h .cell; before = λ u v g. c .rows v (in-y cells w u v g) (h .before u v g) }
+  -- the cells before row k are those before row n
+  clips : Same (Front cells k) (Front cells n)
+  clips = record {
+    to = λ x y f. record { cell = f .cell; before = omega (arith, f .before, c .kept) };
+    from = λ x y f. record { cell = f .cell; before = c .rows y (in-y cells w x y (f .cell)) (f .before) };
+  }
 
   pub numbered-none : getD s 0 0 ≡ 0 → Numbered cells n (replicate 18 0)
   numbered-none z = record {
-    number = λ h. let g = within h in absurd (not-zero cells w 0 (omega arith) k _ (tops 0 (omega arith)) (g .x) (g .y) (g .cell) (g .before (g .x) (g .y) (g .cell)) z);
+    number = λ x y f. let g = clips .from x y f in absurd (not-zero cells w 0 (omega arith) k _ (tops 0 (omega arith)) x y (g .cell) (g .before) z);
     none = λ f i. zero-at 18 i;
   }
 
   pub numbered-all : (getD s 0 0 ≡ 0 → ⊥) → (r : List ℕ)
       → ((i : ℕ) → i < 18 → getD r i 0 + (timesOf i * getD s (middleOf i) 0 + 128) ≡ getD s (firstOf i) 0 + getD s (secondOf i) 0 + timesOf i * 64) → Numbered cells n r
   numbered-all some r e = record {
-    number = λ h i l. number-of cells w k s tops some (within h) i l (getD r i 0) (e i l);
-    none = λ f. let a = attained cells w k s tops some 0 (omega arith) in absurd (f (a .x) (a .y) (a .cell) (omega (arith, a .before, c .kept)));
+    number = λ x y f i l. number-same clips (number-of cells w k s tops some i l (getD r i 0) (e i l));
+    none = λ f. let a = attained cells w k s tops some 0 (omega arith) in absurd (f (a .x) (a .y) (clips .to (a .x) (a .y) (record { cell = a .cell; before = a .before })));
   }
+
+-- where all cells lie before row n, those before it are all
+pub front-all : (cells : List ℕ) (n : ℕ) → ((x y : ℕ) → At cells x y → y < n) → Same (Front cells n) (At cells)
+front-all cells n h = record { to = λ x y f. f .cell; from = λ x y c. record { cell = c; before = h x y c } }

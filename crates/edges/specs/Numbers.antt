@@ -12,6 +12,11 @@ pub record FirstIn (row r : ℕ) : Type 0 where
   pub cell : bit row r ≡ 1
   pub all : (x : ℕ) → bit row x ≡ 1 → r ≤ x
 
+-- r is the column of a row's first cell, and 16 where it has none
+pub record FirstFound (row r : ℕ) : Type 0 where
+  pub some : 0 < row → FirstIn row r
+  pub none : row ≡ 0 → r ≡ 16
+
 -- r is the column of the last cell of a row
 pub record LastIn (row r : ℕ) : Type 0 where
   pub cell : bit row r ≡ 1
@@ -55,6 +60,11 @@ pub record RowTopped (i row y r : ℕ) : Type 0 where
   pub cell : bit row x ≡ 1
   pub at : ahead i x y + 64 ≡ behind i x y + r
 
+-- r has the greatest values of the sixteen directions on a row that is row y of the window, and zeros where it has no cell or is not of the window
+pub record RowTops (row y : ℕ) (r : List ℕ) : Type 0 where
+  pub some : (i : ℕ) → i < 16 → 0 < row → y < 16 → RowTopped i row y (getD r i 0)
+  pub none : (row ≡ 0) ⊎ (16 ≤ y) → (i : ℕ) → getD r i 0 ≡ 0
+
 -- the greatest values s and u of two directions, less t times the value m of a third, are from 0 to 120
 pub record Fits (s u m t : ℕ) : Type 0 where
   pub first : s ≤ 124
@@ -64,14 +74,12 @@ pub record Fits (s u m t : ℕ) : Type 0 where
   pub low : t * m + 128 ≤ s + u + t * 64
   pub high : s + u + t * 64 ≤ t * m + 248
 
--- the rows have a cell, and each of their cells lies before row n
-pub record Within (cells : List ℕ) (n : ℕ) : Type 0 where
-  pub x : ℕ
-  pub y : ℕ
+-- (x, y) is a cell of the rows before row n
+pub record Front (cells : List ℕ) (n x y : ℕ) : Type 0 where
   pub cell : At cells x y
-  pub before : (u v : ℕ) → At cells u v → v < n
+  pub before : y < n
 
--- r has the eighteen numbers of the rows, where these have a cell and none from row n on; where no cell lies before row n it has zeros
+-- r has the eighteen numbers of the cells before row n, and zeros where there is none
 pub record Numbered (cells : List ℕ) (n : ℕ) (r : List ℕ) : Type 0 where
-  pub number : Within cells n → (i : ℕ) → i < 18 → Number i (At cells) (getD r i 0)
-  pub none : ((x y : ℕ) → At cells x y → y < n → ⊥) → (i : ℕ) → getD r i 0 ≡ 0
+  pub number : (x y : ℕ) → Front cells n x y → (i : ℕ) → i < 18 → Number i (Front cells n) (getD r i 0)
+  pub none : ((x y : ℕ) → Front cells n x y → ⊥) → (i : ℕ) → getD r i 0 ≡ 0

@@ -4,7 +4,7 @@
 ghost use mathlib.Core.Path.{_≡_};
 ghost use Prim.Native.Nat.{ℕ, _+_, _*_, _≤_, _<_};
 ghost use lib.ListN.{getD};
-ghost use Rattle.edges.specs.Numbers.{FirstIn, LastIn, Greater, Raised, Clipped, Topped, RowTopped, Fits, Numbered};
+ghost use Rattle.edges.specs.Numbers.{FirstFound, LastIn, Greater, Raised, Clipped, Topped, RowTops, Fits, Numbered};
 
 // The sixteen directions: (PLUS_X - MINUS_X, PLUS_Y - MINUS_Y).
 const PLUS_X: [u16; 16] = [1, 2, 1, 1, 0, 0, 0, 0, 0, 0, 0, 0, 0, 1, 1, 2];
@@ -26,7 +26,7 @@ const TIMES: [u16; 18] = [4, 1, 3, 1, 4, 1, 3, 1, 4, 1, 3, 1, 4, 1, 3, 1, 0, 0];
 
 // The column of the first cell of a row that has one; 16 where it has none.
 pub fn first_in(row: u16) -> u16
-    ensures { λ r. ⌜ (0 < row → FirstIn row r) ⌝ }
+    ensures { λ r. ⌜ FirstFound row r ⌝ }
 {
     u16::trailing_zeros(row) as u16
 }
@@ -114,15 +114,16 @@ pub fn greatest_of(cells: [u16; 16]) -> [u16; 16]
 
 // The greatest values of the sixteen directions on row y alone: 0 where it has no cell or is not of the window.
 pub fn greatest_in(row: u16, y: u16) -> [u16; 16]
-    ensures { λ r. ⌜ ((i : ℕ) → i < 16 → 0 < row → y < 16 → RowTopped i row y (getD r i 0)) ⌝ }
+    ensures { λ r. ⌜ RowTops row y r ⌝ }
 {
-    let s = [0u16; 16];
+    let none = [0u16; 16];
     if row == 0 {
-        return s;
+        return none;
     }
     if 15 < y {
-        return s;
+        return none;
     }
+    let s = [0u16; 16];
     raised(s, first_in(row), last_in(row), y)
 }
 

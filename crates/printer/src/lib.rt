@@ -2,6 +2,7 @@
 ghost use Prim.Native.Nat.{_≤_};
 ghost use lib.ListN.{take};
 ghost use Rattle.planning.specs.Printer.{Printed, PrintedFor};
+ghost use Rattle.text.specs.Page.{Blank};
 ghost use Rattle.printer.specs.Answers.{Answers, Shows};
 use text::Page;
 use text::Reading;
@@ -11,6 +12,7 @@ use words::Answer;
 fn shown(answer: Answer, out: [u32; 32]) -> Page
     ensures text { λ r. ⌜ Shows answer out (take (r .n) (r .bytes)) ⌝ }
     ensures room { λ r. ⌜ r .n ≤ 288 ⌝ }
+    ensures past { λ r. ⌜ Blank r ⌝ }
 {
     match answer {
         Answer::Done(n) => {
@@ -28,6 +30,7 @@ fn shown(answer: Answer, out: [u32; 32]) -> Page
 fn planned(ws: &[u32]) -> Page
     ensures text { λ r. ⌜ PrintedFor (now (ws .entry)) (take (r .n) (r .bytes)) ⌝ }
     ensures room { λ r. ⌜ r .n ≤ 288 ⌝ }
+    ensures past { λ r. ⌜ Blank r ⌝ }
 {
     let mut out = [0u32; 32];
     let answer = planner::plan(ws, &mut out);
@@ -38,6 +41,7 @@ fn planned(ws: &[u32]) -> Page
 pub fn page(s: Reading) -> Page
     ensures text { λ r. ⌜ Answers s (take (r .n) (r .bytes)) ⌝ }
     ensures room { λ r. ⌜ r .n ≤ 288 ⌝ }
+    ensures past { λ r. ⌜ Blank r ⌝ }
 {
     if s.bad {
         return text::unreadable_page();
@@ -57,6 +61,7 @@ pub fn page(s: Reading) -> Page
 pub fn printed(input: &[u8]) -> Page
     ensures text { λ r. ⌜ Printed (now (input .entry)) (take (r .n) (r .bytes)) ⌝ }
     ensures room { λ r. ⌜ r .n ≤ 288 ⌝ }
+    ensures past { λ r. ⌜ Blank r ⌝ }
 {
     page(text::read_some(text::nothing(), input))
 }

@@ -10,11 +10,12 @@ use lib.ListN.{length, getD, set, length-set}
 use lib.Seq.{getD-set-same, getD-set-other}
 use Rattle.masks.specs.Mask.{stage}
 use Rattle.rows.specs.Cells.{Same, At, AtMask}
-use Rattle.rows.proofs.Addition.{stage-rows}
+use Rattle.rows.proofs.Addition.{same-trans, stage-rows}
 use Rattle.rows.proofs.Sums.{last-or}
 use Rattle.edges.specs.Edges.{Number}
 use Rattle.edges.specs.Numbers.{Numbered}
 use Rattle.edges.proofs.Adding.{number-same}
+use Rattle.edges.proofs.Greatest.{front-all}
 use Rattle.completions.specs.Completing.{Among, numberIn}
 use Rattle.completions.proofs.Loops.{upto, put-kept, put-new, put-was}
 use Rattle.search.specs.Tree.{tries}
@@ -98,4 +99,5 @@ pub stage-numbers : (m : ℕ) → T (stage m) → (rows r : List ℕ) → Same (
 stage-numbers m t rows r e n i l =
     let f = stage-rows m t e in
     let c = mask-reach false m t in
-    number-same f (n .number (record { x = c .x; y = c .y; cell = f .from (c .x) (c .y) (c .cell); before = λ u v k. f .to u v k .row }) i l)
+    let a = front-all rows 3 (λ u v k. f .to u v k .row) in
+    number-same (same-trans a f) (n .number (c .x) (c .y) (a .from (c .x) (c .y) (f .from (c .x) (c .y) (c .cell))) i l)

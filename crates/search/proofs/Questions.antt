@@ -18,8 +18,9 @@ use Rattle.rows.proofs.Addition.{same-sym, same-trans, to-cell}
 use Rattle.rows.proofs.Sums.{Rows16, in-y, zero-at}
 use Rattle.extents.specs.Extents.{Greatest, row, column}
 use Rattle.edges.specs.Edges.{plusX, plusY, minusX, minusY, firstOf, secondOf, timesOf, Number}
-use Rattle.edges.specs.Numbers.{Numbered}
-use Rattle.edges.proofs.Adding.{number-once, number-sums}
+use Rattle.edges.specs.Numbers.{Front, Numbered}
+use Rattle.edges.proofs.Adding.{number-once, number-same, number-sums}
+use Rattle.edges.proofs.Greatest.{front-all}
 use Rattle.completions.specs.Completing.{Among, numberIn, Spans, Masks, Open, NoSum}
 use Rattle.completions.proofs.Loops.{among-more}
 use Rattle.completions.proofs.Nodes.{to-part, of-part}
@@ -96,8 +97,12 @@ module _ (marks cells : List ℕ) (M : Marked stage (At cells) 512 marks) where
     };
     counts = λ L f i l. number-once (same-sym (same-trans (f .whole) from-origin))
         (number-sums (numberIn nums i) L (λ m k. let t = f .masks m k in h .at m (stage-below m (is-stage m t)) t i l))
-        (n .number (record { x = g .x; y = g .y; cell = g .cell; before = in-y cells known }) i l);
+        (number-same all (n .number (g .x) (g .y) (all .from (g .x) (g .y) (g .cell)) i l));
   }
+    where
+      -- the window has no row past row 15
+      all : Same (Front cells 16) (At cells)
+      all = front-all cells 16 (in-y cells known)
 
   pub questioned : (need nums list : List ℕ) (n w : ℕ) → Rows16 cells → Greatest column (At cells) w → Tabled marks 512 nums → Numbered cells 16 need → Drawn marks 512 list n → Questioned marks cells need nums (take n list)
   questioned need nums list n w known g h u d =

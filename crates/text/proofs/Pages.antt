@@ -6,10 +6,10 @@ use Prim.Native.Nat.{ℕ, zero, suc, _+_, _-_, _/_, _%_, _≤_, _<_}
 use native.Mathlib.Numerals.{add-one}
 use native.Mathlib.Omega.{arith}
 use borrow.Author.Tests.{lt-ltb, le-ltb}
-use lib.ListN.{length, take, set, getD, replicate, length-append}
-use lib.Seq.{set-append-seam, append-snoc, take-append-seam, take-suc, take-all, length-take-le}
+use lib.ListN.{length, take, drop, set, getD, replicate, length-append}
+use lib.Seq.{set-append-seam, append-snoc, take-append-seam, drop-append-seam, take-suc, take-all, length-take-le}
 use Rattle.planning.specs.Printer.{digit, wordLine, wordLines, refusedLine}
-use Rattle.text.specs.Page.{Holds, Added}
+use Rattle.text.specs.Page.{Holds, Blank, Added}
 use Rattle.text.specs.declared.page.Page.{Page}
 use Rattle.text.proofs.Lines.{line-length, lines-append, lines-one, lines-length}
 
@@ -17,9 +17,12 @@ use Rattle.text.proofs.Lines.{line-length, lines-append, lines-one, lin
 pub page-text : (text : List ℕ) (p : Page) → Holds text p → take (p .n) (p .bytes) ≡ text
 page-text text p H = ap₂ take (H .count) (H .bytes) ∙ take-append-seam text (replicate (288 - length text) 0)
 
--- and those are all in the page
-pub page-room : (text : List ℕ) (p : Page) → Holds text p → p .n ≤ 288
-page-room text p H = let l = H .fits in let c = H .count in omega arith
+-- those are all in the page, and zeros stand past them
+pub page-rest : (text : List ℕ) (p : Page) → Holds text p → (p .n ≤ 288) × Blank p
+page-rest text p H = (
+  let l = H .fits in let c = H .count in omega arith,
+  ap₂ drop (H .count) (H .bytes) ∙ drop-append-seam text (replicate (288 - length text) 0) ∙ ap (λ k. replicate (288 - k) 0) (sym (H .count)),
+)
 
 pub added-none : (p : Page) → Added p [] p
 added-none p = record { held = λ text l H. subst (λ t. Holds t p) (sym (append-nil text)) H }

@@ -14,7 +14,7 @@ returns : tie.Need-returns
 returns c =
     let st = c .before .before .before .before in
     let h = st .args .here in
-    opened-outside (now (st .args .nums)) (now (st .args .cand)) (h .target) (h .rest) (h .path) (h .len) (h .need) (st .args .m) (st .args .k) _ _ _ _ _ (λ r. c .before .roomy .ensures .1 (not-true _ (c .if1 .taken)) (r .table) (r .list) (r .path))
+    opened-outside (now (st .args .nums)) (now (st .args .cand)) (h .target) (h .rest) (h .path) (h .len) (h .need) (st .args .m) (st .args .k) (λ r. c .before .roomy .ensures .1 (not-true _ (c .if1 .taken)) (r .table) (r .list) (r .path))
 
 step-requires : tie.Need-step-requires
 step-requires c κs =

@@ -1,6 +1,7 @@
 -- The zeros below the lowest bit are the column of the first cell.
-use lib.Count.{trailing-le}
-use Rattle.edges.proofs.Columns.{first-of}
+use mathlib.Core.Path.{_∙_, ap}
+use lib.Count.{trailingZeros, trailing-le}
+use Rattle.edges.proofs.Columns.{first-of, none-16}
 use native.Mathlib.Omega.{arith}
 use Rattle.edges.proofs.first_in.Statement.{statement}
 use Rattle.edges.proofs.first_in.Tie as tie
@@ -9,7 +10,7 @@ cast-result : tie.Need-cast-result
 cast-result c = omega (arith, trailing-le 16 (c .args .row))
 
 returns : tie.Need-returns
-returns c = λ p. first-of 16 (c .args .row) p (omega arith)
+returns c = record { some = λ p. first-of 16 (c .args .row) p (omega arith); none = λ e. ap (trailingZeros 16) e ∙ none-16 }
 
 pub first-in-spec : {M : Type 1} → statement M
 first-in-spec = tie.close (tie.spec cast-result returns)

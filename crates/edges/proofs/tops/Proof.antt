@@ -43,7 +43,7 @@ raised-requires c κs =
     let at-loop = c .before .before .before .before in
     let y = at-loop .loop .y in
     let words = rows16 (at-loop .before .args .t1) _ (at-loop .before .good .0) .words y in
-    (omega (arith, bit-in 16 _ _ words (c .before .first-in .ensures (omega arith) .cell)), (omega (arith, bit-in 16 _ _ words (c .last-in .ensures .cell)), omega arith))
+    (omega (arith, bit-in 16 _ _ words (c .before .first-in .ensures .some (omega arith) .cell)), (omega (arith, bit-in 16 _ _ words (c .last-in .ensures .cell)), omega arith))
 
 add-y : tie.Need-add-y Inv-loop μ-loop
 add-y c = search needs
@@ -60,7 +60,7 @@ loop-again c =
     (λ w. (
       omega arith,
       λ i l. subst (λ (s : List ℕ). Topped i cells (y + 1) (getD s i 0)) (sym (w .4))
-          (topped-row i cells l y _ _ (w .1 .ensures (omega (arith, w .0))) (w .2 .ensures) _ _ (h .inv .1 i l) (w .3 .ensures i l)),
+          (topped-row i cells l y _ _ (w .1 .ensures .some (omega (arith, w .0))) (w .2 .ensures) _ _ (h .inv .1 i l) (w .3 .ensures i l)),
     ))
     (λ w. (omega arith, λ i l. subst (λ (s : List ℕ). Topped i cells (y + 1) (getD s i 0)) (sym (w .1)) (topped-skip i cells y _ (w .0 .left) (h .inv .1 i l))))
     (c .if1 .came)

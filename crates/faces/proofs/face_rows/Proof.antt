@@ -60,7 +60,7 @@ loop-again c =
     ⊎-elim
     (λ w. (
       omega arith,
-      λ i l. let v = w .1 .ensures i l (omega (arith, w .0)) (omega arith) in
+      λ i l. let v = w .1 .ensures .some i l (omega (arith, w .0)) (omega arith) in
           subst (to i) (sym (w .3)) (rows-more i cells _ (s .ensures i l) y _ _ _ (omega arith) v (h .inv .1 i l) (w .2 .ensures i l)),
     ))
     (λ w. (omega arith, λ i l. subst (to i) (sym (w .1)) (rows-skip i cells _ y _ (w .0 .left) (h .inv .1 i l))))

@@ -25,11 +25,11 @@ cast-result-2 : tie.Need-cast-result-2
 cast-result-2 c = search needs
 
 shr-result : tie.Need-shr-result
-shr-result c = omega (arith, bit-in 16 _ _ (omega arith) (c .first-in .ensures (omega arith) .cell))
+shr-result c = omega (arith, bit-in 16 _ _ (omega arith) (c .first-in .ensures .some (omega arith) .cell))
 
 returns-2 : tie.Need-returns-2
 returns-2 c =
-    let f = c .first-in .ensures (omega arith) in
+    let f = c .first-in .ensures .some (omega arith) in
     (λ e. lone-of _ _ f (omega (arith, eqb-true)), λ e. two-of _ _ f (omega arith) (eqb-false _ _ e))
 
 pub lone-spec : {M : Type 1} → statement M

@@ -19,10 +19,10 @@ mul-result : tie.Need-mul-result
 mul-result c = search needs
 
 array-read-result : tie.Need-array-read-result
-array-read-result c = omega (arith, bit-in 16 _ _ (omega arith) (c .first-in .ensures (omega arith) .cell))
+array-read-result c = omega (arith, bit-in 16 _ _ (omega arith) (c .first-in .ensures .some (omega arith) .cell))
 
 returns-2 : tie.Need-returns-2
-returns-2 c = record { none = λ e. absurd (omega arith); some = λ l. (c .first-in .result, (c .first-in .ensures l, refl)) }
+returns-2 c = record { none = λ e. absurd (omega arith); some = λ l. (c .first-in .result, (c .first-in .ensures .some l, refl)) }
 
 pub row-at-spec : {M : Type 1} → statement M
 row-at-spec =

@@ -2,7 +2,7 @@
 use mathlib.Core.Path.{sym}
 use lib.ListN.{length-map}
 use lib.Seq.{length-take-le}
-use Rattle.text.proofs.Pages.{page-room}
+use Rattle.text.proofs.Pages.{page-rest}
 use Rattle.printer.proofs.Answering.{answers-bad, answers-begun, answers-none, answers-words}
 use native.Mathlib.Omega.{arith}
 use borrow.Author.Needs.{needs}
@@ -13,19 +13,19 @@ unreadable-page-requires : tie.Need-unreadable-page-requires
 unreadable-page-requires c κs = search needs
 
 returns : tie.Need-returns
-returns c = (answers-bad _ _ (c .before .if1 .taken) (c .unreadable-page .ensures), page-room _ _ (c .unreadable-page .ensures))
+returns c = (answers-bad _ _ (c .before .if1 .taken) (c .unreadable-page .ensures), page-rest _ _ (c .unreadable-page .ensures))
 
 unreadable-page-requires-2 : tie.Need-unreadable-page-requires-2
 unreadable-page-requires-2 c κs = search needs
 
 returns-2 : tie.Need-returns-2
-returns-2 c = (answers-begun _ _ (c .before .before .before .if1 .left) (λ z. omega arith) (c .unreadable-page2 .ensures), page-room _ _ (c .unreadable-page2 .ensures))
+returns-2 c = (answers-begun _ _ (c .before .before .before .if1 .left) (λ z. omega arith) (c .unreadable-page2 .ensures), page-rest _ _ (c .unreadable-page2 .ensures))
 
 unreadable-page-requires-3 : tie.Need-unreadable-page-requires-3
 unreadable-page-requires-3 c κs = search needs
 
 returns-3 : tie.Need-returns-3
-returns-3 c = (answers-none _ _ (c .before .before .before .before .before .if1 .left) (omega arith) (c .unreadable-page3 .ensures), page-room _ _ (c .unreadable-page3 .ensures))
+returns-3 c = (answers-none _ _ (c .before .before .before .before .before .if1 .left) (omega arith) (c .unreadable-page3 .ensures), page-rest _ _ (c .unreadable-page3 .ensures))
 
 array-share-prefix-words : tie.Need-array-share-prefix-words
 array-share-prefix-words c = let st = c .before .before .before .before .before in let n = st .good .0 .1 .1 .1 .1 .0 .1 .0 .1 in omega (arith, length-map (st .args .s .words) (λ v. v))

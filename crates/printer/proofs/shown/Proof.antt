@@ -1,7 +1,7 @@
 -- The number of words of a plan is cut to the output list's; a refusal is its number.
 use mathlib.Core.Path.{sym}
 use lib.Seq.{length-take-le}
-use Rattle.text.proofs.Pages.{page-room}
+use Rattle.text.proofs.Pages.{page-rest}
 use Rattle.printer.proofs.Showing.{shows-part, shows-whole, shows-refused}
 use native.Mathlib.Omega.{arith}
 use borrow.Author.Needs.{needs}
@@ -25,7 +25,7 @@ returns c =
     let k = c .before .before .before .before in
     let st = k .before .before in
     let n = st .good .1 .0 .1 .0 .1 in
-    (shows-whole _ _ _ _ (k .answer .given .1) n (omega arith) (c .words-page .ensures), page-room _ _ (c .words-page .ensures))
+    (shows-whole _ _ _ _ (k .answer .given .1) n (omega arith) (c .words-page .ensures), page-rest _ _ (c .words-page .ensures))
 
 array-share-prefix-out : tie.Need-array-share-prefix-out
 array-share-prefix-out c = search needs
@@ -51,11 +51,11 @@ refused-page-requires c κs = search needs
 returns-2 : tie.Need-returns-2
 returns-2 c =
     let k = c .before .before .before .before in
-    (shows-part _ _ _ _ (k .answer .given .1) (omega arith) (c .words-page2 .ensures), page-room _ _ (c .words-page2 .ensures))
+    (shows-part _ _ _ _ (k .answer .given .1) (omega arith) (c .words-page2 .ensures), page-rest _ _ (c .words-page2 .ensures))
 
 returns-3 : tie.Need-returns-3
 returns-3 c =
-    (shows-refused _ _ _ _ _ (c .before .before .before .answer2 .given .1) (c .before .number .ensures) (c .refused-page .ensures), page-room _ _ (c .refused-page .ensures))
+    (shows-refused _ _ _ _ _ (c .before .before .before .answer2 .given .1) (c .before .number .ensures) (c .refused-page .ensures), page-rest _ _ (c .refused-page .ensures))
 
 pub shown-spec : {M : Type 1} → statement M
 shown-spec =
