@@ -4,10 +4,11 @@ use mathlib.Core.List.{List, [], _∷_}
 use Prim.Native.Nat.{ℕ, _+_}
 use native.Mathlib.Omega.{arith}
 use lib.ListN.{length, length-append, replicate}
-use Rattle.words.specs.Ground.{firstOf, stated, refusal}
+use Rattle.words.specs.Ground.{firstOf, stated, result, refusal}
 use Rattle.words.specs.declared.Answer.{Answer}
+use Rattle.masks.specs.Chain.{Chain, subset}
 use Rattle.shapes.specs.Shape.{shapeTests}
-use Rattle.planning.specs.Planning.{planningTests, Planned}
+use Rattle.planning.specs.Planning.{Shape, planningTests, Unplannable, PlanWritten, Planned}
 use Rattle.planning.specs.Printer.{wordLine, wordLines, shown, Reads, Printed}
 
 -- an output list of 32 words is enough for a plan, and a wrong shape list comes before one that is not
@@ -67,3 +68,11 @@ spoilt output p = p .unreadable (λ ws r. no ws (r .lines))
 plans-not : (r : Answer) (out′ : List ℕ) → Planned (0x10000000 ∷ 0x20000000 ∷ []) (replicate 32 7) r out′ → (stated r ≡ refusal 4) × (out′ ≡ replicate 32 7)
 unfolding shapeTests
 plans-not r out′ p = p .refused (λ e. let n : _≡_ {A = ℕ} 4 0 = e in omega arith)
+
+-- a plan of two stages is a list of four words
+answers-4 : (ws out : List ℕ) (r : Answer) (out′ : List ℕ) (w : PlanWritten ws out r out′) → w .stages ≡ 3 ∷ 5 ∷ [] → stated r ≡ result 4
+answers-4 ws out r out′ w e = w .answer ∙ ap (λ l. result (length l + 2)) e
+
+-- a shape with a chain is not refused by 10
+not-ten : (ws out : List ℕ) (r : Answer) (out′ : List ℕ) → Chain subset (Shape ws) → Unplannable ws out r out′ → ⊥
+not-ten ws out r out′ c u = u .none c

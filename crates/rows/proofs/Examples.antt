@@ -2,7 +2,7 @@
 use mathlib.Core.Path.{refl}
 use mathlib.Core.List.{[], _∷_}
 use lib.Dec.{lit<}
-use Rattle.rows.specs.Cells.{At, AtMask, Sum}
+use Rattle.rows.specs.Cells.{Cells, At, AtMask, Sum, Residue}
 use Rattle.rows.specs.Leaves.{Lowered}
 
 -- bit 2 of row 1
@@ -29,3 +29,7 @@ sum-cell = record {
 -- moved by (−1, −1), it is bit 1 of row 0
 lowered-cell : Lowered (At (0 ∷ 4 ∷ [])) 1 1 1 0
 lowered-cell = refl
+
+-- (2, 0) lies in the residue by (0, 1) where (2, 1) lies in the set
+residue-reads : (X : Cells) → Residue X (AtMask 8) 2 0 → X 2 1
+residue-reads X r = r .all 0 1 (record { column = lit< tt; row = lit< tt; set = refl })
