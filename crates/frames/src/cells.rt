@@ -57,7 +57,7 @@ fn count(cell: u8) -> u8
     0
 }
 
-// The number of occupied cells in a chunk: at most 255 cells, so that a byte holds it and a register many such bytes.
+// The number of occupied cells in a chunk. It has at most 255, so that a byte holds the count and a register sixteen such counts.
 fn in_chunk(cells: &[u8]) -> u8
     requires { ⌜ length (now cells) ≤ 255 ⌝ }
     ensures { λ r. ⌜ r ≡ countsOf (now (cells .entry)) ⌝ }
@@ -71,10 +71,10 @@ fn in_chunk(cells: &[u8]) -> u8
     n
 }
 
-// The cells of a chunk: a whole number of registers, so that no chunk but the last ends cell by cell.
+// The cells of a whole chunk. They fill registers of sixteen bytes, so that only the last chunk ends cell by cell.
 const CHUNK: usize = 224;
 
-// The number of occupied cells, chunk by chunk; the last chunk has what is left.
+// The number of occupied cells, chunk by chunk; the last chunk has what is left, perhaps nothing.
 pub(crate) fn occupied(cells: &[u8]) -> u32
     requires { ⌜ length (now cells) ≤ 57600 ⌝ }
     ensures { λ r. ⌜ r ≡ load (now (cells .entry)) ⌝ }
