@@ -1,5 +1,6 @@
-//! Frames: putting, single stages and whole operations at the greatest size, 240 by 240,
-//! and on small frames; the library beside OpenCV, leptonica, Rust and plain copies.
+//! Frames: putting, the load, single stages and whole operations at the greatest size, 240
+//! by 240, and the last two on small frames; the library beside OpenCV, leptonica, Rust and
+//! plain copies.
 
 use goals::Rows;
 use musqerpi_tests::frames::grid_of;
@@ -10,6 +11,7 @@ mod before;
 mod builds;
 mod goals;
 mod kernel;
+mod load;
 mod operations;
 mod other;
 mod pictures;
@@ -61,11 +63,13 @@ pub fn run() {
     println!("{}, one bit a cell", other::leptonica::version());
     println!("the library's microseconds, and its time over the others'");
     let puts = putting::run();
+    let loads = load::run();
     let stages = stages::run();
     let operations = operations::run();
     let (small_stages, small_operations) = small::run();
     goals::print(&Rows {
         puts,
+        loads,
         stages,
         operations,
         small_stages,

@@ -72,6 +72,7 @@ mod boundary {
             second_n: usize,
             image: *mut u8,
         ) -> i64;
+        pub fn before_musq_load(w: usize, h: usize, frame: *const u8, frame_n: usize) -> i64;
     }
 }
 
@@ -88,6 +89,11 @@ pub fn stage(word: u32, erode: bool, size: (usize, usize), from: &[u8], to: &mut
     let ((w, h), cells, n) = (size, from.as_ptr(), from.len());
     // SAFETY: pointers and lengths are those of live slices, see above.
     unsafe { boundary::before_musq_stage(word, erode, w, h, cells, n, to.as_mut_ptr(), to.len()) }
+}
+
+pub fn load(w: usize, h: usize, frame: &[u8]) -> i64 {
+    // SAFETY: pointer and length are those of a live slice, see above.
+    unsafe { boundary::before_musq_load(w, h, frame.as_ptr(), frame.len()) }
 }
 
 pub fn operate(

@@ -9,6 +9,7 @@ use musqerpi_tests::{frames, operations};
 type Put = fn(usize, usize, &[u8], &mut [u8]) -> i64;
 type Stage = fn(u32, bool, (usize, usize), &[u8], &mut [u8]) -> i64;
 type Operate = fn(Op, &[u32], (usize, usize), &[u8], &mut [u8], &mut [u8]) -> i64;
+type Load = fn(usize, usize, &[u8]) -> i64;
 type Part = fn(usize, (usize, usize), &[u8], &[u8], &mut u8) -> i64;
 
 pub struct Build {
@@ -17,6 +18,7 @@ pub struct Build {
     pub stage: Stage,
     pub operate: Operate,
     pub part: Part,
+    pub load: Load,
 }
 
 pub const BUILDS: &[Build] = &[
@@ -26,6 +28,7 @@ pub const BUILDS: &[Build] = &[
         stage: frames::library::stage,
         operate: operations::library::operate,
         part: operations::library::part,
+        load: frames::library::load,
     },
     #[cfg(feature = "before")]
     Build {
@@ -34,5 +37,6 @@ pub const BUILDS: &[Build] = &[
         stage: before::stage,
         operate: before::operate,
         part: before::part,
+        load: before::load,
     },
 ];

@@ -9,6 +9,7 @@ use crate::print_goal;
 /// All rows of a run, by table; those of operations with the stages of their plans.
 pub struct Rows {
     pub puts: Vec<Row>,
+    pub loads: Vec<Row>,
     pub stages: Vec<Row>,
     pub operations: Vec<(usize, Row)>,
     pub small_stages: Vec<Row>,
@@ -59,4 +60,6 @@ pub fn print(rows: &Rows) {
     let goal = format!("stages, {LEAST}, at most 0.5 us");
     print_worst(&goal, 0.5, " us", times);
     at_most("putting", 1.2, "fill and copy", rows.puts.iter());
+    at_most("load", 1.5, "chunks", rows.loads.iter());
+    at_most("load", 0.5, "before", rows.loads.iter());
 }

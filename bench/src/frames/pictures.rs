@@ -15,6 +15,13 @@ pub fn grid(size: Size, erode: bool) -> Vec<u8> {
     grid
 }
 
+/// A random frame in which so many of 64 cells are occupied.
+pub fn scattered(size: Size, of_64: usize) -> Vec<u8> {
+    let mut random = Random::new(2028);
+    let cell = |_| u8::from(random.below(64) < of_64);
+    (0..size.cells()).map(cell).collect()
+}
+
 /// A frame of rectangles and single cells, so that something is left by each operation.
 pub fn frame(size: Size) -> Vec<u8> {
     let mut random = Random::new(2027);

@@ -1,5 +1,5 @@
-//! In plain Rust: putting a frame, and stages by a flat loop over bytes for each cell of a
-//! mask, and by a kernel's points directly, row by row.
+//! In plain Rust: putting a frame, its load, and stages by a flat loop over bytes for each
+//! cell of a mask, and by a kernel's points directly, row by row.
 
 use super::kernel::Kernel;
 use super::Size;
@@ -16,6 +16,17 @@ pub fn put(size: Size, frame: &[u8], grid: &mut [u8]) {
     for (to, from) in grid.chunks_mut(width).zip(frame.chunks(w)) {
         to[..w].copy_from_slice(from);
     }
+}
+
+/// The occupied cells, in chunks of 255, each counted in a byte.
+pub fn chunks(frame: &[u8]) -> i64 {
+    let occupied = |chunk: &[u8]| -> u8 { chunk.iter().map(|&cell| u8::from(cell == 1)).sum() };
+    frame.chunks(255).map(occupied).map(i64::from).sum()
+}
+
+/// The occupied cells, one after the other.
+pub fn filter(frame: &[u8]) -> i64 {
+    frame.iter().filter(|&&cell| cell == 1).count() as i64
 }
 
 /// For each cell of the mask one flat loop over the grid's bytes, in chunks; then the two

@@ -2,14 +2,14 @@
 use mathlib.Core.Path.{_≡_, refl, sym, _∙_, ap}
 use mathlib.Core.Bool.{Bool, true, false, cond, _||_}
 use mathlib.Core.List.{List, [], _∷_}
-use Prim.Native.Nat.{ℕ, _+_, _≤_, _<_, max, min}
+use Prim.Native.Nat.{ℕ, zero, suc, _+_, _-_, _≤_, _<_, max, min}
 use native.Mathlib.Omega.{arith}
 use native.Mathlib.Numerals.{add-one}
 use native.Mathlib.Decide.{decLe}
 use borrow.Author.Tests.{ltb-true, ltb-false, lt-ltb, le-ltb}
 use lib.Dec.{ltb, eqb}
 use lib.ListN.{length, getD, take, drop, drop-of-length-le}
-use lib.Seq.{drop-cons, take-all, take-length}
+use lib.Seq.{drop-cons, drop-drop, take-all, take-length}
 use Rattle.plane.specs.Lists.{keep}
 use Rattle.grids.specs.Frame.{full, highest, badCell, load}
 use Rattle.frames.specs.Leaves.{greatestOf, countOf, countsOf}
@@ -53,6 +53,26 @@ counts-one l i h = ap countsOf (drop-cons l i 0 h) ∙ ap (λ n. countOf (getD l
 
 pub counts-none : (l : List ℕ) (i : ℕ) → length l ≤ i → countsOf (drop i l) ≡ 0
 counts-none l i h = ap countsOf (drop-of-length-le l h)
+
+-- a part of the cells from k on, and those behind it
+pub counts-part : (l : List ℕ) (k e : ℕ) → k ≤ e → countsOf (drop k l) ≡ countsOf (take (e - k) (drop k l)) + countsOf (drop e l)
+counts-part l k e h =
+    let i : k + (e - k) ≡ e = omega arith in
+    split (e - k) (drop k l) ∙ ap (λ r. countsOf (take (e - k) (drop k l)) + countsOf r) (drop-drop (e - k) k l ∙ ap (λ n. drop n l) i)
+  where
+    split : (n : ℕ) (l : List ℕ) → countsOf l ≡ countsOf (take n l) + countsOf (drop n l)
+    split zero l = omega arith
+    split (suc n) [] = refl
+    split (suc n) (v ∷ vs) = let i = split n vs in omega arith
+
+-- each cell counts at most 1
+pub counts-most : (l : List ℕ) → countsOf l ≤ length l
+counts-most [] = omega arith
+counts-most (v ∷ vs) = let i = counts-most vs in let o = one (eqb v full) in omega arith
+  where
+    one : (b : Bool) → cond b 1 0 ≤ 1
+    one true = omega arith
+    one false = omega arith
 
 pub counts-load : (f : List ℕ) → countsOf f ≡ load f
 unfolding load

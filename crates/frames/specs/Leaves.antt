@@ -1,14 +1,14 @@
 -- What the loops over cells compute; proofs/ has that these are ground 13 and the load.
 use mathlib.Core.List.{List, [], _∷_}
 use mathlib.Core.Bool.{cond}
-use Prim.Native.Nat.{ℕ, _+_}
+use Prim.Native.Nat.{ℕ, _+_, max}
 use lib.Dec.{eqb}
 use Rattle.grids.specs.Image.{fold}
-use Rattle.grids.specs.Frame.{free, full, greater}
+use Rattle.grids.specs.Frame.{full}
 
--- the greatest of some cells; free where there is none
+-- the greatest of some bytes; 0 where there is none
 abbrev pub greatestOf : List ℕ → ℕ
-greatestOf f = fold greater free f
+greatestOf f = fold max 0 f
 
 -- what a cell adds to the load
 abbrev pub countOf : ℕ → ℕ

@@ -3,7 +3,7 @@ ghost use mathlib.Core.Path.{_≡_};
 ghost use Prim.Native.Nat.{_≤_, min, max};
 ghost use lib.ListN.{length, take};
 ghost use Rattle.grids.specs.Frame.{badCell, load};
-ghost use Rattle.frames.specs.Leaves.{greatestOf, countOf};
+ghost use Rattle.frames.specs.Leaves.{greatestOf, countOf, countsOf};
 
 // The greater of two cells.
 fn greater(a: u8, b: u8) -> u8
@@ -48,7 +48,7 @@ pub(crate) fn bad_among(cells: &[u8], n: usize) -> bool
 }
 
 // What a cell adds to the load.
-fn count(cell: u8) -> u32
+fn count(cell: u8) -> u8
     ensures { λ r. ⌜ (r ≡ countOf cell) × (r ≤ 1) ⌝ }
 {
     if cell == 1 {
@@ -57,16 +57,33 @@ fn count(cell: u8) -> u32
     0
 }
 
-// The number of occupied cells.
+// The number of occupied cells in a chunk. It has at most 255, so that a byte holds the count and a register sixteen such counts.
+fn in_chunk(cells: &[u8]) -> u8
+    requires { ⌜ length (now cells) ≤ 255 ⌝ }
+    ensures { λ r. ⌜ r ≡ countsOf (now (cells .entry)) ⌝ }
+{
+    let mut n: u8 = 0;
+    let mut j: usize = 0;
+    while j < cells.len() {
+        n += count(cells[j]);
+        j += 1;
+    }
+    n
+}
+
+// The cells of a whole chunk. They fill registers of sixteen bytes, so that only the last chunk ends cell by cell.
+const CHUNK: usize = 224;
+
+// The number of occupied cells, chunk by chunk; the last chunk has what is left, perhaps nothing.
 pub(crate) fn occupied(cells: &[u8]) -> u32
     requires { ⌜ length (now cells) ≤ 57600 ⌝ }
     ensures { λ r. ⌜ r ≡ load (now (cells .entry)) ⌝ }
 {
     let mut n: u32 = 0;
     let mut k: usize = 0;
-    while k < cells.len() {
-        n += count(cells[k]);
-        k += 1;
+    while k + CHUNK <= cells.len() {
+        n += in_chunk(&cells[k..k + CHUNK]) as u32;
+        k += CHUNK;
     }
-    n
+    n + in_chunk(&cells[k..cells.len()]) as u32
 }

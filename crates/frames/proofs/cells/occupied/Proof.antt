@@ -1,16 +1,17 @@
--- The invariant: the count so far and those of the cells from `k` on make the whole; each cell adds at most 1, so nothing wraps.
+-- The invariant: the count so far and those of the cells from `k` on make the whole, which is at most the number of cells, so nothing wraps.
+-- The measure is the number of cells left; behind the last whole chunk these are fewer than a chunk has, and the last call counts them.
 use borrow.Author.Needs.{needs}
 use mathlib.Core.Path.{_≡_, _∙_}
 use Prim.Native.Nat.{_+_, _-_, _≤_}
 use native.Mathlib.Omega.{arith}
-use lib.ListN.{length, drop}
+use lib.ListN.{length, drop, length-take}
 use Rattle.frames.specs.Leaves.{countsOf}
-use Rattle.frames.proofs.Loops.{counts-one, counts-none, counts-load}
+use Rattle.frames.proofs.Loops.{counts-part, counts-most, counts-none, counts-load}
 use Rattle.frames.proofs.cells.occupied.Statement.{statement}
 use Rattle.frames.proofs.cells.occupied.Tie as tie
 
 abbrev Inv-loop : tie.InvT-loop
-Inv-loop cells n₀ k₀ n k = (n ≤ k) × (n + countsOf (drop k cells) ≡ countsOf cells)
+Inv-loop cells n₀ k₀ n k = (k ≤ length cells) × (n + countsOf (drop k cells) ≡ countsOf cells)
 
 abbrev μ-loop : tie.MeasureT-loop
 μ-loop cells n₀ k₀ n k = length cells - k
@@ -18,35 +19,73 @@ abbrev μ-loop : tie.MeasureT-loop
 loop-holds : tie.Need-loop-holds Inv-loop μ-loop
 loop-holds c = (omega arith, omega arith)
 
-shared-slice-read-count : tie.Need-shared-slice-read-count Inv-loop μ-loop
-shared-slice-read-count c = search needs
+add-loop : tie.Need-add-loop Inv-loop μ-loop
+add-loop c = omega arith
 
-count-requires : tie.Need-count-requires Inv-loop μ-loop
-count-requires c κs = search needs
+add-in-chunk : tie.Need-add-in-chunk Inv-loop μ-loop
+add-in-chunk c = omega arith
+
+sub-in-chunk : tie.Need-sub-in-chunk Inv-loop μ-loop
+sub-in-chunk c = search needs
+
+part-in-chunk-start : tie.Need-part-in-chunk-start Inv-loop μ-loop
+part-in-chunk-start c = search needs
+
+part-in-chunk-end : tie.Need-part-in-chunk-end Inv-loop μ-loop
+part-in-chunk-end c = search needs
+
+in-chunk-requires : tie.Need-in-chunk-requires Inv-loop μ-loop
+in-chunk-requires c κs =
+    let k = c .before .before .loop .k in
+    let cells = c .before .before .before .before .args .cells .now in
+    omega (arith, length-take (k + 224 - k) (drop k cells))
+
+cast-n : tie.Need-cast-n Inv-loop μ-loop
+cast-n c = search needs
 
 add-n : tie.Need-add-n Inv-loop μ-loop
-add-n c = omega arith
+add-n c = omega (arith, counts-most (c .before .before .before .before .before .args .cells .now))
 
 add-k : tie.Need-add-k Inv-loop μ-loop
-add-k c = search needs
+add-k c = omega arith
 
 loop-less : tie.Need-loop-less Inv-loop μ-loop
-loop-less c = search needs
+loop-less c = omega arith
 
 loop-again : tie.Need-loop-again Inv-loop μ-loop
 loop-again c =
-    let h = c .before .before .before .loop in
+    let k = c .before .before .before .loop .k in
     let cells = c .before .before .before .before .before .args .cells .now in
-    let o = counts-one cells (h .k) (omega arith) in
-    let e = c .count .ensures .0 in
-    (omega arith, omega arith)
+    (omega arith, omega (arith, counts-part cells k (k + 224) (omega arith), c .in-chunk .ensures))
+
+sub-in-chunk-2 : tie.Need-sub-in-chunk-2 Inv-loop μ-loop
+sub-in-chunk-2 c = omega arith
+
+part-in-chunk-start-2 : tie.Need-part-in-chunk-start-2 Inv-loop μ-loop
+part-in-chunk-start-2 c = search needs
+
+part-in-chunk-end-2 : tie.Need-part-in-chunk-end-2 Inv-loop μ-loop
+part-in-chunk-end-2 c = search needs
+
+in-chunk-requires-2 : tie.Need-in-chunk-requires-2 Inv-loop μ-loop
+in-chunk-requires-2 c κs =
+    let k = c .before .before .loop .k in
+    let cells = c .before .before .before .before .args .cells .now in
+    omega (arith, length-take (length cells - k) (drop k cells))
+
+cast-result : tie.Need-cast-result Inv-loop μ-loop
+cast-result c = search needs
+
+add-result : tie.Need-add-result Inv-loop μ-loop
+add-result c = omega (arith, counts-most (c .before .before .before .before .before .args .cells .now))
 
 returns : tie.Need-returns Inv-loop μ-loop
 returns c =
-    let h = c .before .loop in
-    let cells = c .before .before .before .args .cells .now in
-    let z = counts-none cells (h .k) (c .loop-test .left) in
-    let e : h .n ≡ countsOf cells = omega arith in
+    let h = c .before .before .before .loop in
+    let cells = c .before .before .before .before .before .args .cells .now in
+    let p = counts-part cells (h .k) (length cells) (omega arith) in
+    let z = counts-none cells (length cells) (omega arith) in
+    let e : h .n + c .in-chunk2 .result ≡ countsOf cells = omega (arith, c .in-chunk2 .ensures) in
     e ∙ counts-load cells
 
 pub occupied-spec : {M : Type 1} → statement M
@@ -56,10 +95,21 @@ occupied-spec =
     Inv-loop
     μ-loop
     loop-holds
-    shared-slice-read-count
-    count-requires
+    add-loop
+    add-in-chunk
+    sub-in-chunk
+    part-in-chunk-start
+    part-in-chunk-end
+    in-chunk-requires
+    cast-n
     add-n
     add-k
     loop-less
     loop-again
+    sub-in-chunk-2
+    part-in-chunk-start-2
+    part-in-chunk-end-2
+    in-chunk-requires-2
+    cast-result
+    add-result
     returns)
