@@ -23,7 +23,7 @@
  * Threads. Nothing is kept from one call to the next, and no call allocates. Calls may run on several threads at the
  * same time, as long as none writes what another reads or writes.
  *
- * The archive is for x86-64 alone: ELF, as on Linux, and no instructions beyond SSE2. Of the C library it needs memcpy
+ * The archive is for x86-64 alone (ELF, as on Linux), compiled for no more than SSE2. Of the C library it needs memcpy
  * and memset.
  */
 #ifndef MUSQERPI_H
@@ -58,7 +58,8 @@ enum musq_ground {
 
 /* The five calls on lists write a list to the start of out and answer its length in words; the words of out past it
  * are as they were. out must not overlap a list that is read; a and b may be the same list. out has 32 words or more
- * for a plan and 17 or more for a shape, however short the list. */
+ * for a plan and 17 or more for a shape, however short the list. A shape is written with the least anchor: ax is 0, or
+ * -x of its least x where that is below 0; ay likewise. */
 
 /* Plans a shape: writes the plan with the fewest stages whose sum, moved by its offset, is exactly the shape's points;
  * of several such, the one whose masks, compared in order, are smallest at the first difference. Answers 2 to 32.
