@@ -40,12 +40,12 @@ abbrev pub imageAt : ℕ → List ℕ → List ℕ → List ℕ
 imageAt k first second = cond (eqb k 2) second (cond (eqb k 1) first [])
 
 -- the part that is handed back: that of the stages run, and none for a refusal
-abbrev pub partOf : ℤ → ℕ → ℕ → List ℕ → List ℕ → List ℕ
-partOf (pos n) W H first second = part n W H first second
-partOf (negsuc _) W H first second = []
+abbrev pub partFor : ℤ → ℕ → ℕ → List ℕ → List ℕ → List ℕ
+partFor (pos n) W H first second = part n W H first second
+partFor (negsuc _) W H first second = []
 
 -- the part for an answer a is the first r bytes of the image k
 pub record PartFound (a : ℤ) (W H : ℕ) (i j : List ℕ) (r : ℤ) (k : ℕ) : Type 0 where
   pub image : k ≡ imageOf a
-  pub number : r ≡ pos (length (partOf a W H i j))
-  pub bytes : take (length (partOf a W H i j)) (imageAt k i j) ≡ partOf a W H i j
+  pub number : r ≡ pos (length (partFor a W H i j))
+  pub bytes : take (length (partFor a W H i j)) (imageAt k i j) ≡ partFor a W H i j
