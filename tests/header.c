@@ -1,4 +1,5 @@
-/* The header against the archive, from C: one answer and one refusal of each call, by document 01. Exits with the number of answers that are wrong. */
+/* The header against the archive, from C and from C++: answers and refusals of each call by document 01, a null pointer of length 0 in every
+ * place, and a refusal given to the part. Exits with 0 if all are right. */
 #include <stdio.h>
 #include <string.h>
 
@@ -6,116 +7,238 @@
 
 static int wrong;
 
-/* The answer n and the words of out are those expected; the words past the list are as they were. */
-static void expect(const char *call, int64_t n, int64_t answer, const uint32_t *out, const uint32_t *words)
+static void check(const char *call, int right)
+{
+    if (!right) {
+        printf("%s: wrong\n", call);
+        wrong++;
+    }
+}
+
+/* ---- lists */
+
+static const uint32_t row[] = {0x10000000, 0x2000000f};
+static const uint32_t back[] = {0x10000001, 0x20000001}; /* the point (-1, 0) */
+static const uint32_t plan[] = {0x30000002, 0x40000f0f, 0x50000003, 0x50000005};
+static uint32_t out[32];
+
+/* The answer n and the words of out are those expected; the words past the list are as they were, and are made so again. */
+static void expect(const char *call, int64_t n, int64_t answer, const uint32_t *words)
 {
     uint32_t all[32];
     memset(all, 0xa5, sizeof all);
     if (answer > 0)
         memcpy(all, words, (size_t)answer * sizeof *words);
-    if (n != answer || memcmp(out, all, sizeof all) != 0) {
-        printf("%s: wrong\n", call);
-        wrong++;
-    }
+    check(call, n == answer && memcmp(out, all, sizeof all) == 0);
+    memset(out, 0xa5, sizeof out);
 }
 
-/* The answer n is the one expected, and the bytes at least are those given. */
-static void expect_bytes(const char *call, int64_t n, int64_t answer, const uint8_t *bytes, const uint8_t *expected, size_t count)
+static void lists(void)
 {
-    if (n != answer || memcmp(bytes, expected, count) != 0) {
-        printf("%s: wrong\n", call);
-        wrong++;
-    }
+    static const uint32_t apart[] = {0x10000000, 0x20000009};
+    static const uint32_t two[] = {0x10000000, 0x20000001, 0x20010002}; /* the points (0, 0) and (1, 1) */
+    static const uint32_t moved[] = {0x10000010, 0x200001e0};
+    static const uint32_t longer[] = {0x10000001, 0x2000001f};
+    static const uint32_t taller[] = {0x10000000, 0x2000000f, 0x20010002};
+    static const uint32_t moved_back[] = {0x10000001, 0x2000000f};
+    static const uint32_t twice[] = {0x10000000, 0x2000000f, 0x2001001e};
+    static const uint32_t doubled[] = {0x10000000, 0x2000007f};
+
+    memset(out, 0xa5, sizeof out);
+    expect("musq_plan, short", musq_plan(row, 2, out, 31), -MUSQ_OUTPUT_LENGTH, NULL);
+    expect("musq_plan, no chain", musq_plan(apart, 2, out, 32), -MUSQ_NO_CHAIN, NULL);
+    expect("musq_plan", musq_plan(row, 2, out, 32), 4, plan);
+    expect("musq_shape_of_plan, cut", musq_shape_of_plan(plan, 3, out, 17), -MUSQ_STAGE_COUNT, NULL);
+    expect("musq_shape_of_plan", musq_shape_of_plan(plan, 4, out, 17), 2, row);
+    expect("musq_move, far", musq_move(row, 2, 13, 0, out, 17), -MUSQ_OUT_OF_RANGE, NULL);
+    expect("musq_move", musq_move(row, 2, 5, -1, out, 17), 2, moved);
+    expect("musq_join, short", musq_join(row, 2, back, 2, out, 16), -MUSQ_OUTPUT_LENGTH, NULL);
+    expect("musq_join, a point", musq_join(row, 2, back, 2, out, 17), 2, longer);
+    expect("musq_join, two points", musq_join(row, 2, two, 3, out, 17), 3, taller);
+    expect("musq_join, one list twice", musq_join(row, 2, row, 2, out, 17), 2, row);
+    expect("musq_sum, a plan", musq_sum(row, 2, plan, 4, out, 17), -MUSQ_WORD_KIND, NULL);
+    expect("musq_sum, a point", musq_sum(row, 2, back, 2, out, 17), 2, moved_back);
+    expect("musq_sum, two points", musq_sum(row, 2, two, 3, out, 17), 3, twice);
+    expect("musq_sum, one list twice", musq_sum(row, 2, row, 2, out, 17), 2, doubled);
+
+    expect("musq_plan, no shape", musq_plan(NULL, 0, out, 32), -MUSQ_LIST_LENGTH, NULL);
+    expect("musq_plan, no output", musq_plan(row, 2, NULL, 0), -MUSQ_OUTPUT_LENGTH, NULL);
+    expect("musq_shape_of_plan, no plan", musq_shape_of_plan(NULL, 0, out, 17), -MUSQ_LIST_LENGTH, NULL);
+    expect("musq_shape_of_plan, no output", musq_shape_of_plan(plan, 4, NULL, 0), -MUSQ_OUTPUT_LENGTH, NULL);
+    expect("musq_move, no shape", musq_move(NULL, 0, 1, 1, out, 17), -MUSQ_LIST_LENGTH, NULL);
+    expect("musq_move, no output", musq_move(row, 2, 1, 1, NULL, 0), -MUSQ_OUTPUT_LENGTH, NULL);
+    expect("musq_join, no first", musq_join(NULL, 0, row, 2, out, 17), -MUSQ_LIST_LENGTH, NULL);
+    expect("musq_join, no second", musq_join(row, 2, NULL, 0, out, 17), -MUSQ_LIST_LENGTH, NULL);
+    expect("musq_join, no output", musq_join(row, 2, back, 2, NULL, 0), -MUSQ_OUTPUT_LENGTH, NULL);
+    expect("musq_sum, no first", musq_sum(NULL, 0, row, 2, out, 17), -MUSQ_LIST_LENGTH, NULL);
+    expect("musq_sum, no second", musq_sum(row, 2, NULL, 0, out, 17), -MUSQ_LIST_LENGTH, NULL);
+    expect("musq_sum, no output", musq_sum(row, 2, back, 2, NULL, 0), -MUSQ_OUTPUT_LENGTH, NULL);
 }
 
-/* Frames: one row of three columns, 1 0 1, in a grid of 18 columns and 16 rows. */
+/* ---- frames: one row of three columns, 1 0 1, in grids of 18 columns and 16 rows, with a byte past each */
+
+enum { GRID = 288, IMAGE = 289 };
+
+static const uint8_t frame[] = {1, 0, 1};
+static uint8_t first[IMAGE], second[IMAGE];
+
+static void dirty(void)
+{
+    memset(first, 0xa5, sizeof first);
+    memset(second, 0xa5, sizeof second);
+}
+
+/* The answer n is the one expected, and neither image has changed. */
+static void expect_none(const char *call, int64_t n, int64_t answer)
+{
+    uint8_t as_before[IMAGE];
+    memset(as_before, 0xa5, sizeof as_before);
+    check(call, n == answer && memcmp(first, as_before, IMAGE) == 0 && memcmp(second, as_before, IMAGE) == 0);
+}
+
+/* The answer n is 0, and the grid has these five cells and then free ones; the byte past it is as it was. */
+static void expect_grid(const char *call, int64_t n, const uint8_t *image, const uint8_t *cells)
+{
+    uint8_t all[IMAGE] = {0};
+    memcpy(all, cells, 5);
+    all[GRID] = 0xa5;
+    check(call, n == 0 && memcmp(image, all, IMAGE) == 0);
+}
+
 static void frames(void)
 {
-    static const uint8_t frame[] = {1, 0, 1};
     static const uint8_t put[] = {1, 0, 1, 0, 0};
     static const uint8_t dilated[] = {1, 1, 1, 1, 0};
     static const uint8_t eroded[] = {1, 1, 1, 0, 0};
-    static uint8_t first[288], second[288];
+    static const uint8_t erode[] = {1, 2, 128, 255};
+    const uint32_t word = 0x50000003;
+    size_t i;
 
-    memset(first, 0xa5, sizeof first);
-    expect_bytes("musq_load", musq_load(3, 1, frame, 3), 2, frame, put, 3);
-    expect_bytes("musq_load, 241", musq_load(241, 1, frame, 3), -MUSQ_FRAME_SIZE, frame, put, 3);
-    expect_bytes("musq_put", musq_put(3, 1, frame, 3, first, 288), 0, first, put, 5);
-    expect_bytes("musq_put, short", musq_put(3, 1, frame, 3, first, 287), -MUSQ_IMAGE_LENGTH, first, put, 5);
-    expect_bytes("musq_stage", musq_stage(0x50000003, false, 3, 1, first, 288, second, 288), 0, second, dilated, 5);
-    expect_bytes("musq_stage, one cell", musq_stage(0x50000001, false, 3, 1, first, 288, second, 288), -MUSQ_STAGE_MASK, second, dilated, 5);
-    expect_bytes("musq_stage, erode", musq_stage(0x50000003, true, 3, 1, second, 288, first, 288), 0, first, eroded, 5);
+    dirty();
+    expect_none("musq_load", musq_load(3, 1, frame, 3), 2);
+    expect_none("musq_load, 241", musq_load(241, 1, frame, 3), -MUSQ_FRAME_SIZE);
+    expect_none("musq_load, no frame", musq_load(3, 1, NULL, 0), -MUSQ_FRAME_LENGTH);
+    expect_none("musq_load, no frame of 0", musq_load(0, 0, NULL, 0), -MUSQ_FRAME_SIZE);
+    expect_none("musq_put, short", musq_put(3, 1, frame, 3, first, GRID - 1), -MUSQ_IMAGE_LENGTH);
+    expect_none("musq_put, no frame", musq_put(3, 1, NULL, 0, first, IMAGE), -MUSQ_FRAME_LENGTH);
+    expect_none("musq_put, no image", musq_put(3, 1, frame, 3, NULL, 0), -MUSQ_IMAGE_LENGTH);
+    expect_grid("musq_put", musq_put(3, 1, frame, 3, first, IMAGE), first, put);
+    expect_grid("musq_stage, dilation", musq_stage(word, 0, 3, 1, first, IMAGE, second, IMAGE), second, dilated);
+    expect_grid("musq_stage, dilation, what was read", 0, first, put);
+    for (i = 0; i < sizeof erode; i++) {
+        memset(first, 0xa5, sizeof first);
+        expect_grid("musq_stage, erosion", musq_stage(word, erode[i], 3, 1, second, IMAGE, first, IMAGE), first, eroded);
+    }
+    expect_grid("musq_stage, erosion, what was read", 0, second, dilated);
+
+    memset(first, 0, sizeof first);
+    memset(second, 0xa5, sizeof second);
+    check("musq_stage, one cell", musq_stage(0x50000001, 0, 3, 1, first, IMAGE, second, IMAGE) == -MUSQ_STAGE_MASK && second[0] == 0xa5);
+    check("musq_stage, no image read", musq_stage(word, 0, 3, 1, NULL, 0, second, IMAGE) == -MUSQ_IMAGE_LENGTH && second[0] == 0xa5);
+    check("musq_stage, none written", musq_stage(word, 1, 3, 1, first, IMAGE, NULL, 0) == -MUSQ_IMAGE_LENGTH);
 }
 
-/* The answer n of an operation on the frame of three columns is the one expected, and the part is what it left. */
-static void expect_part(const char *call, int64_t n, int64_t answer, const uint8_t *first, const uint8_t *second, const uint8_t *expected)
+/* ---- operations: columns 0 to 2, and the point (1, 0), a plan without a stage */
+
+static const uint32_t columns[] = {0x30000001, 0x40000f0f, 0x50000007};
+static const uint32_t point[] = {0x30000000, 0x40000f10};
+
+typedef int64_t operation(const uint32_t *, size_t, size_t, size_t, const uint8_t *, size_t, uint8_t *, size_t, uint8_t *, size_t);
+
+/* The operation on these three columns runs so many stages, and the part is the three cells expected. */
+static void expect_part(const char *call, operation *run, const uint32_t *words, size_t n, const uint8_t *cells, int64_t stages, const uint8_t *expected)
 {
-    uint8_t image = 0;
-    int64_t length = musq_part((size_t)n, 3, 1, first, 288, second, 288, &image);
-    const uint8_t *part = image == 1 ? first : second;
+    uint8_t image = 0xa5;
+    int64_t answer, length;
+    const uint8_t *part;
 
-    expect_bytes(call, n, answer, part, expected, 3);
-    expect_bytes(call, length, 3, &image, answer % 2 == 1 ? (const uint8_t *)"\1" : (const uint8_t *)"\2", 1);
+    dirty();
+    answer = run(words, n, 3, 1, cells, 3, first, IMAGE, second, IMAGE);
+    length = musq_part(answer, 3, 1, first, IMAGE, second, IMAGE, &image);
+    part = image == 1 ? first : second;
+    check(call, answer == stages && length == 3 && image == (stages % 2 == 1 ? 1 : 2) && memcmp(part, expected, 3) == 0);
+    check(call, first[GRID] == 0xa5 && second[GRID] == 0xa5);
 }
 
-/* The four operations: the frame 1 0 1 by columns 0 to 2, and 1 1 0 by the point (1, 0), a plan without a stage. */
+/* The answer is this refusal, nothing has changed, and it gives an empty part: length 0, image 0, and nothing else changes. */
+static void expect_refusal(const char *call, int64_t answer, int64_t ground)
+{
+    uint8_t image[3] = {0xa5, 0xa5, 0xa5};
+
+    expect_none(call, answer, -ground);
+    expect_none(call, musq_part(answer, 3, 1, first, IMAGE, second, IMAGE, &image[1]), 0);
+    check(call, image[0] == 0xa5 && image[1] == 0 && image[2] == 0xa5);
+}
+
+/* What each of the four refuses, with a null pointer for each list, frame and image in turn. */
+static void refusals(const char *call, operation *run)
+{
+    dirty();
+    expect_refusal(call, run(columns, 2, 3, 1, frame, 3, first, IMAGE, second, IMAGE), MUSQ_STAGE_COUNT);
+    expect_refusal(call, run(columns, 3, 3, 241, frame, 3, first, IMAGE, second, IMAGE), MUSQ_FRAME_SIZE);
+    expect_refusal(call, run(columns, 3, 2, 1, frame, 3, first, IMAGE, second, IMAGE), MUSQ_FRAME_LENGTH);
+    expect_refusal(call, run(columns, 3, 3, 1, frame, 3, first, IMAGE, second, GRID - 1), MUSQ_IMAGE_LENGTH);
+    expect_refusal(call, run(NULL, 0, 3, 1, frame, 3, first, IMAGE, second, IMAGE), MUSQ_LIST_LENGTH);
+    expect_refusal(call, run(columns, 3, 3, 1, NULL, 0, first, IMAGE, second, IMAGE), MUSQ_FRAME_LENGTH);
+    expect_refusal(call, run(columns, 3, 3, 1, frame, 3, NULL, 0, second, IMAGE), MUSQ_IMAGE_LENGTH);
+    expect_refusal(call, run(columns, 3, 3, 1, frame, 3, first, IMAGE, NULL, 0), MUSQ_IMAGE_LENGTH);
+}
+
 static void operations(void)
 {
-    static const uint32_t columns[] = {0x30000001, 0x40000f0f, 0x50000007};
-    static const uint32_t point[] = {0x30000000, 0x40000f10};
-    static const uint8_t frame[] = {1, 0, 1};
     static const uint8_t full[] = {1, 1, 1};
     static const uint8_t none[] = {0, 0, 0};
     static const uint8_t two[] = {1, 1, 0};
     static const uint8_t ahead[] = {0, 1, 1};
-    static const uint8_t back[] = {1, 0, 0};
-    static uint8_t first[288], second[288], as_before[288];
-    uint8_t image = 0;
+    static const uint8_t behind[] = {1, 0, 0};
 
-    memset(first, 0xa5, sizeof first);
-    memset(second, 0xa5, sizeof second);
-    memset(as_before, 0xa5, sizeof as_before);
-    expect_bytes("musq_dilate, short", musq_dilate(columns, 3, 3, 1, frame, 3, first, 288, second, 287), -MUSQ_IMAGE_LENGTH, first, as_before, 288);
-    expect_bytes("musq_erode, cut", musq_erode(columns, 2, 3, 1, frame, 3, first, 288, second, 288), -MUSQ_STAGE_COUNT, second, as_before, 288);
-    expect_bytes("musq_open, long", musq_open(columns, 3, 2, 1, frame, 3, first, 288, second, 288), -MUSQ_FRAME_LENGTH, first, as_before, 288);
-    expect_bytes("musq_close, 241", musq_close(columns, 3, 3, 241, frame, 3, first, 288, second, 288), -MUSQ_FRAME_SIZE, second, as_before, 288);
-    expect_part("musq_dilate", musq_dilate(columns, 3, 3, 1, frame, 3, first, 288, second, 288), 1, first, second, full);
-    expect_part("musq_erode", musq_erode(columns, 3, 3, 1, frame, 3, first, 288, second, 288), 1, first, second, none);
-    expect_part("musq_open", musq_open(columns, 3, 3, 1, frame, 3, first, 288, second, 288), 2, first, second, none);
-    expect_part("musq_close", musq_close(columns, 3, 3, 1, frame, 3, first, 288, second, 288), 2, first, second, full);
-    expect_part("musq_dilate, a point", musq_dilate(point, 2, 3, 1, two, 3, first, 288, second, 288), 0, first, second, ahead);
-    expect_part("musq_erode, a point", musq_erode(point, 2, 3, 1, two, 3, first, 288, second, 288), 0, first, second, back);
-    expect_part("musq_open, a point", musq_open(point, 2, 3, 1, two, 3, first, 288, second, 288), 0, first, second, two);
-    expect_part("musq_close, a point", musq_close(point, 2, 3, 1, two, 3, first, 288, second, 288), 0, first, second, two);
-    expect_bytes("musq_part, empty", musq_part(3, 3, 1, first, 2, second, 288, &image), 0, &image, (const uint8_t *)"\1", 1);
+    refusals("musq_dilate, refused", musq_dilate);
+    refusals("musq_erode, refused", musq_erode);
+    refusals("musq_open, refused", musq_open);
+    refusals("musq_close, refused", musq_close);
+    expect_part("musq_dilate", musq_dilate, columns, 3, frame, 1, full);
+    expect_part("musq_erode", musq_erode, columns, 3, frame, 1, none);
+    expect_part("musq_open", musq_open, columns, 3, frame, 2, none);
+    expect_part("musq_close", musq_close, columns, 3, frame, 2, full);
+    expect_part("musq_dilate, a point", musq_dilate, point, 2, two, 0, ahead);
+    expect_part("musq_erode, a point", musq_erode, point, 2, two, 0, behind);
+    expect_part("musq_open, a point", musq_open, point, 2, two, 0, two);
+    expect_part("musq_close, a point", musq_close, point, 2, two, 0, two);
+}
+
+/* The part of three columns for this number and images of these lengths, null where they have none. */
+static void expect_length(int64_t stages, size_t first_n, size_t second_n, int64_t length, uint8_t image)
+{
+    uint8_t set = 0xa5;
+    const uint8_t *one = first_n == 0 ? NULL : first;
+    const uint8_t *two = second_n == 0 ? NULL : second;
+
+    expect_none("musq_part", musq_part(stages, 3, 1, one, first_n, two, second_n, &set), length);
+    check("musq_part, the image", set == image);
+}
+
+static void parts(void)
+{
+    dirty();
+    expect_length(1, 3, 0, 3, 1);
+    expect_length(2, 0, 3, 3, 2);
+    expect_length(3, 2, IMAGE, 0, 1);
+    expect_length(4, IMAGE, 2, 0, 2);
+    expect_length(1, 0, IMAGE, 0, 1);
+    expect_length(0, IMAGE, 0, 0, 2);
+    expect_length(0, 0, 0, 0, 2);
+    expect_length(INT64_MAX, IMAGE, IMAGE, 3, 1);
+    expect_length(-1, IMAGE, IMAGE, 0, 0);
+    expect_length(-14, IMAGE, IMAGE, 0, 0);
+    expect_length(-14, 0, 0, 0, 0);
+    expect_length(INT64_MIN, IMAGE, IMAGE, 0, 0);
 }
 
 int main(void)
 {
-    static const uint32_t row[] = {0x10000000, 0x2000000f};
-    static const uint32_t apart[] = {0x10000000, 0x20000009};
-    static const uint32_t cell[] = {0x10000000, 0x20000001};
-    static const uint32_t plan[] = {0x30000002, 0x40000f0f, 0x50000003, 0x50000005};
-    static const uint32_t moved[] = {0x10000010, 0x200001e0};
-    uint32_t out[32];
-
-    memset(out, 0xa5, sizeof out);
-    expect("musq_plan, short", musq_plan(row, 2, out, 31), -MUSQ_OUTPUT_LENGTH, out, plan);
-    expect("musq_plan, no chain", musq_plan(apart, 2, out, 32), -MUSQ_NO_CHAIN, out, plan);
-    expect("musq_plan", musq_plan(row, 2, out, 32), 4, out, plan);
-    memset(out, 0xa5, sizeof out);
-    expect("musq_shape_of_plan, cut", musq_shape_of_plan(plan, 3, out, 17), -MUSQ_STAGE_COUNT, out, row);
-    expect("musq_shape_of_plan", musq_shape_of_plan(plan, 4, out, 17), 2, out, row);
-    memset(out, 0xa5, sizeof out);
-    expect("musq_move, far", musq_move(row, 2, 13, 0, out, 17), -MUSQ_OUT_OF_RANGE, out, moved);
-    expect("musq_move", musq_move(row, 2, 5, -1, out, 17), 2, out, moved);
-    memset(out, 0xa5, sizeof out);
-    expect("musq_join, short", musq_join(row, 2, cell, 2, out, 16), -MUSQ_OUTPUT_LENGTH, out, row);
-    expect("musq_join", musq_join(row, 2, cell, 2, out, 17), 2, out, row);
-    memset(out, 0xa5, sizeof out);
-    expect("musq_sum, a plan", musq_sum(row, 2, plan, 4, out, 17), -MUSQ_WORD_KIND, out, row);
-    expect("musq_sum", musq_sum(row, 2, cell, 2, out, 17), 2, out, row);
+    lists();
     frames();
     operations();
-    return wrong;
+    parts();
+    return wrong != 0;
 }

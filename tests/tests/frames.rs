@@ -232,3 +232,17 @@ fn one_cell_is_moved_by_the_masks_cells() {
         assert_eq!(eroded, from, "mask {mask} erodes itself to one cell");
     }
 }
+
+/// Anything but 0 erodes.
+#[test]
+fn every_byte_of_erode() {
+    let (word, size, grid) = (stage_word(3), (3, 1), 18 * 16);
+    let mut from = vec![0; grid];
+    from[..3].copy_from_slice(&[1, 1, 0]);
+    for erode in 0..=255 {
+        let mut to = vec![7; grid];
+        assert_eq!(library::stage_by_byte(word, erode, size, &from, &mut to), 0);
+        let wanted: &[u8] = if erode == 0 { &[1, 1, 1] } else { &[1] };
+        assert_row(&to, wanted);
+    }
+}

@@ -19,7 +19,7 @@ fn row(shape: &[u32], op: Op, frame: &[u8], stages: usize, wanted: &[u8]) {
     let answer = library::operate(op, &plan, (w, 1), frame, &mut first, &mut second);
     assert_eq!(answer, stages as i64, "{case}");
     let mut image = 0;
-    let length = library::part(stages, (w, 1), &first, &second, &mut image);
+    let length = library::part(answer, (w, 1), &first, &second, &mut image);
     let from = if image == 1 { first } else { second };
     assert_eq!(&from[..length as usize], wanted, "{case}");
 }

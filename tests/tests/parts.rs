@@ -1,5 +1,6 @@
 //! (m) The call that hands back the part: it refuses nothing, changes nothing but the
-//! number of the image, and its part is empty where document 01 says so.
+//! number of the image, and its part is empty where document 01 says so and where it is
+//! asked for with a refusal.
 
 use musqerpi_tests::operations::check::{part_of, Lent};
 use musqerpi_tests::operations::{reference, Case, Op};
@@ -24,23 +25,23 @@ const SIDES: [usize; 16] = [
     usize::MAX,
 ];
 
-const STAGES: [usize; 12] = [
-    0,
-    1,
-    2,
-    3,
-    29,
-    30,
-    59,
-    60,
-    255,
-    256,
-    usize::MAX - 1,
-    usize::MAX,
+const STAGES: [i64; 12] = [0, 1, 2, 3, 29, 30, 59, 60, 255, 256, i64::MAX - 1, i64::MAX];
+
+/// Refusals, and numbers below 0 that no call answers.
+const NEGATIVE: [i64; 9] = [
+    -1,
+    -2,
+    -13,
+    -14,
+    -15,
+    -256,
+    i32::MIN as i64,
+    i64::MIN + 1,
+    i64::MIN,
 ];
 
 /// Asks for the part in guarded memory with dirty images of these lengths.
-fn check(stages: usize, size: (usize, usize), images: (usize, usize), random: &mut Random) -> i64 {
+fn check(stages: i64, size: (usize, usize), images: (usize, usize), random: &mut Random) -> i64 {
     let case = Case::new(Op::Dilate, &[], size, &[], images);
     let mut lent = Lent::of(&case, random);
     let before = lent.clone();
@@ -63,6 +64,27 @@ fn all_numbers_of_stages() {
     }
 }
 
+/// No part of any size, in images of any length, and nothing but the number changes.
+#[test]
+fn negative_numbers() {
+    let mut random = Random::new(805);
+    for stages in NEGATIVE {
+        for size in [
+            (4, 3),
+            (1, 1),
+            (240, 240),
+            (0, 3),
+            (241, 1),
+            (usize::MAX, 2),
+        ] {
+            for images in [(70_000, 70_000), (12, 12), (0, 0), (0, 400), (400, 0)] {
+                assert_eq!(check(stages, size, images, &mut random), 0);
+                assert_eq!(reference::image_of(stages), 0);
+            }
+        }
+    }
+}
+
 #[test]
 fn sizes() {
     let mut random = Random::new(802);
@@ -72,7 +94,7 @@ fn sizes() {
             // As many bytes as the cut product has, if they are few; else many.
             let cells = w.wrapping_mul(h);
             let n = if cells < 70_000 { cells } else { 70_000 };
-            for stages in [0, 1, 2, 7, usize::MAX] {
+            for stages in [0, 1, 2, 7, i64::MAX] {
                 for images in [(n, n), (70_000, n), (n, 70_000)] {
                     match check(stages, (w, h), images, &mut random) {
                         0 => empty += 1,
@@ -121,7 +143,7 @@ fn sizes_at_random() {
             true => (near, other),
             false => (other, near),
         };
-        let stages = random.below(61);
+        let stages = random.below(61) as i64;
         let length = check(stages, size, images, &mut random);
         counts[usize::from(length > 0)] += 1;
     }

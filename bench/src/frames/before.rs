@@ -52,9 +52,12 @@ mod boundary {
             image: *mut u8,
             image_n: usize,
         ) -> i64;
+        // An older build takes `erode` as a bool and `stages` as a size_t. By the C ABI of
+        // x86-64 a byte of 0 or 1, and a number that isn't negative, are passed in the same
+        // registers, so that one signature serves both.
         pub fn before_musq_stage(
             word: u32,
-            erode: bool,
+            erode: u8,
             w: usize,
             h: usize,
             from: *const u8,
@@ -63,7 +66,7 @@ mod boundary {
             to_n: usize,
         ) -> i64;
         pub fn before_musq_part(
-            stages: usize,
+            stages: i64,
             w: usize,
             h: usize,
             first: *const u8,
@@ -88,7 +91,18 @@ pub fn put(w: usize, h: usize, frame: &[u8], image: &mut [u8]) -> i64 {
 pub fn stage(word: u32, erode: bool, size: (usize, usize), from: &[u8], to: &mut [u8]) -> i64 {
     let ((w, h), cells, n) = (size, from.as_ptr(), from.len());
     // SAFETY: pointers and lengths are those of live slices, see above.
-    unsafe { boundary::before_musq_stage(word, erode, w, h, cells, n, to.as_mut_ptr(), to.len()) }
+    unsafe {
+        boundary::before_musq_stage(
+            word,
+            u8::from(erode),
+            w,
+            h,
+            cells,
+            n,
+            to.as_mut_ptr(),
+            to.len(),
+        )
+    }
 }
 
 pub fn load(w: usize, h: usize, frame: &[u8]) -> i64 {
@@ -128,7 +142,7 @@ pub fn operate(
 }
 
 pub fn part(
-    stages: usize,
+    stages: i64,
     (w, h): (usize, usize),
     first: &[u8],
     second: &[u8],

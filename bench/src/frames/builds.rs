@@ -10,7 +10,7 @@ type Put = fn(usize, usize, &[u8], &mut [u8]) -> i64;
 type Stage = fn(u32, bool, (usize, usize), &[u8], &mut [u8]) -> i64;
 type Operate = fn(Op, &[u32], (usize, usize), &[u8], &mut [u8], &mut [u8]) -> i64;
 type Load = fn(usize, usize, &[u8]) -> i64;
-type Part = fn(usize, (usize, usize), &[u8], &[u8], &mut u8) -> i64;
+type Part = fn(i64, (usize, usize), &[u8], &[u8], &mut u8) -> i64;
 
 pub struct Build {
     pub name: &'static str,

@@ -107,7 +107,7 @@ fn of_build<'a>(build: &'static Build, case: &'a Case) -> Engine<'a> {
         let stages = (build.operate)(case.op, &case.plan, pair, frame, first, second);
         assert_eq!(stages, run, "{:?}", case.op);
         let mut image = 0;
-        let length = (build.part)(stages as usize, pair, first, second, &mut image);
+        let length = (build.part)(stages, pair, first, second, &mut image);
         let from = if image == 1 { first } else { second };
         asked(read, &from[..length as usize])
     })

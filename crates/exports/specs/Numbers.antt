@@ -1,11 +1,11 @@
--- What the calls for other languages answer: one signed 64-bit number, the result, or −N for refusal N; and which bytes the
--- part is.
+-- What the calls for other languages answer: one signed 64-bit number, the result, or −N for refusal N; what the byte
+-- of a single stage says; and which bytes the part is, also where it is asked for with a refusal.
 use mathlib.Core.Path.{_≡_}
-use mathlib.Core.Bool.{cond}
-use mathlib.Core.List.{List}
+use mathlib.Core.Bool.{Bool, cond, not}
+use mathlib.Core.List.{List, []}
 use Prim.Native.Nat.{ℕ, _%_}
 use lib.Dec.{eqb}
-use lib.IntN.{ℤ, pos, negℤ}
+use lib.IntN.{ℤ, pos, negsuc, negℤ}
 use lib.ListN.{length, take}
 use Rattle.words.specs.declared.Answer.{Answer}
 use Rattle.words.specs.declared.Answer.the-variants.{Done, Refused}
@@ -22,18 +22,30 @@ pub record Stands (r : ℤ) (P : Answer → Type 0) : Type 0 where
   pub number : r ≡ signedOf answer
   pub kept : P answer
 
--- ---- the part
+-- ---- the single stage
 
--- the number of the image that holds the result: 2, the second, if the number of stages run is even, 1, the first, if odd
-abbrev pub imageOf : ℕ → ℕ
-imageOf n = cond (eqb (n % 2) 0) 2 1
+-- a byte says to erode if it is anything but 0
+abbrev pub erodes : ℕ → Bool
+erodes b = not (eqb b 0)
+
+-- ---- the part, for the number that an operation answered
+
+-- the number of the image that holds the result: 2, the second, if the number of stages run is even, 1, the first, if odd; 0, neither, for a refusal
+abbrev pub imageOf : ℤ → ℕ
+imageOf (pos n) = cond (eqb (n % 2) 0) 2 1
+imageOf (negsuc _) = 0
 
 -- the image with a number
 abbrev pub imageAt : ℕ → List ℕ → List ℕ → List ℕ
-imageAt k first second = cond (eqb k 2) second first
+imageAt k first second = cond (eqb k 2) second (cond (eqb k 1) first [])
 
--- the part for n stages run is the first r bytes of the image k
-pub record PartFound (n W H : ℕ) (i j : List ℕ) (r : ℤ) (k : ℕ) : Type 0 where
-  pub image : k ≡ imageOf n
-  pub number : r ≡ pos (length (part n W H i j))
-  pub bytes : take (length (part n W H i j)) (imageAt k i j) ≡ part n W H i j
+-- the part that is handed back: that of the stages run, and none for a refusal
+abbrev pub partFor : ℤ → ℕ → ℕ → List ℕ → List ℕ → List ℕ
+partFor (pos n) W H first second = part n W H first second
+partFor (negsuc _) W H first second = []
+
+-- the part for an answer a is the first r bytes of the image k
+pub record PartFound (a : ℤ) (W H : ℕ) (i j : List ℕ) (r : ℤ) (k : ℕ) : Type 0 where
+  pub image : k ≡ imageOf a
+  pub number : r ≡ pos (length (partFor a W H i j))
+  pub bytes : take (length (partFor a W H i j)) (imageAt k i j) ≡ partFor a W H i j

@@ -1,13 +1,14 @@
 // The calls for Rust and C: one function for each, on plain numbers and slices (a pointer and a length). include/musqerpi.h declares them.
 // An answer is the result, or −N for refusal N; what it and the lent words are is said by the call that each stands for.
 ghost use mathlib.Core.Path.{_≡_};
+ghost use lib.IntN.{pos};
 ghost use Rattle.shapes.specs.Calls.{Moved, Joined, Summed, TurnedBack};
 ghost use Rattle.planning.specs.Planning.{Planned};
 ghost use Rattle.grids.specs.Frame.{LoadCounted};
 ghost use Rattle.grids.specs.Grid.{FramePut, Staged};
 ghost use Rattle.cleaning.specs.declared.Operation.the-variants.{Dilation, Erosion, Opening, Closing};
 ghost use Rattle.cleaning.specs.Cleaning.{Cleaned};
-ghost use Rattle.exports.specs.Numbers.{signedOf, Stands, imageOf, PartFound};
+ghost use Rattle.exports.specs.Numbers.{signedOf, Stands, erodes, imageOf, PartFound};
 use words::Answer;
 
 // The result, or −N for refusal N.
@@ -76,19 +77,19 @@ pub extern "C" fn musq_put(w: usize, h: usize, frame: &[u8], image: &mut [u8]) -
     signed(framing::put(w, h, frame, image))
 }
 
-// A single stage.
+// A single stage, by erosion if the byte erode is anything but 0, else by dilation.
 #[no_mangle]
 pub extern "C" fn musq_stage(
     word: u32,
-    erode: bool,
+    erode: u8,
     w: usize,
     h: usize,
     from: &[u8],
     to: &mut [u8],
 ) -> i64
-    ensures { λ r. ⌜ Stands r (λ a. Staged erode word w h (now (from .entry)) (now (to .entry)) a (now (to .exit))) ⌝ }
+    ensures { λ r. ⌜ Stands r (λ a. Staged (erodes erode) word w h (now (from .entry)) (now (to .entry)) a (now (to .exit))) ⌝ }
 {
-    signed(framing::stage(word, erode, w, h, from, to))
+    signed(framing::stage(word, erode != 0, w, h, from, to))
 }
 
 // Dilation of a frame by a plan.
@@ -152,19 +153,20 @@ pub extern "C" fn musq_close(
 }
 
 // The number of the image that the part is in: 2, the second, if the number of stages run is even, and 1, the first, if odd.
-fn image_of(stages: usize) -> u8
-    ensures { λ r. ⌜ r ≡ imageOf stages ⌝ }
+fn image_of(n: usize) -> u8
+    ensures { λ r. ⌜ r ≡ imageOf (pos n) ⌝ }
 {
-    if stages % 2 == 0 {
+    if n % 2 == 0 {
         return 2;
     }
     1
 }
 
-// The part: its length, and in image the number of the image that it is the start of. A call for other languages returns no slice.
+// The part, for the number that an operation answered: its length, and in image the number of the image that it is the start of. A refusal's
+// part is empty, in no image. A call for other languages returns no slice.
 #[no_mangle]
 pub extern "C" fn musq_part<'a>(
-    stages: usize,
+    stages: i64,
     w: usize,
     h: usize,
     first: &'a [u8],
@@ -173,7 +175,12 @@ pub extern "C" fn musq_part<'a>(
 ) -> i64
     ensures { λ r. ⌜ PartFound stages w h (now (first .entry)) (now (second .entry)) r (now (image .exit)) ⌝ }
 {
-    *image = image_of(stages);
-    let found = parts::part(stages, w, h, first, second);
+    if stages < 0 {
+        *image = 0;
+        return 0;
+    }
+    let n = stages as usize;
+    *image = image_of(n);
+    let found = parts::part(n, w, h, first, second);
     found.len() as i64
 }

@@ -15,7 +15,7 @@ mod boundary {
         ) -> i64;
         pub fn musq_stage(
             word: u32,
-            erode: bool,
+            erode: u8,
             w: usize,
             h: usize,
             from: *const u8,
@@ -41,6 +41,17 @@ pub fn put(w: usize, h: usize, frame: &[u8], image: &mut [u8]) -> i64 {
 }
 
 pub fn stage(word: u32, erode: bool, size: (usize, usize), from: &[u8], to: &mut [u8]) -> i64 {
+    stage_by_byte(word, u8::from(erode), size, from, to)
+}
+
+/// The single stage with the byte that says whether to erode as C has it.
+pub fn stage_by_byte(
+    word: u32,
+    erode: u8,
+    size: (usize, usize),
+    from: &[u8],
+    to: &mut [u8],
+) -> i64 {
     let ((w, h), cells, n) = (size, from.as_ptr(), from.len());
     // SAFETY: pointers and lengths are those of live slices, see above.
     unsafe { boundary::musq_stage(word, erode, w, h, cells, n, to.as_mut_ptr(), to.len()) }

@@ -76,7 +76,7 @@ impl Lent {
 
     /// Writes the part that is wanted after so many stages.
     fn write_part(&mut self, stages: usize, part: &[u8]) {
-        let image = match reference::image_of(stages) {
+        let image = match reference::image_of(stages as i64) {
             1 => self.first.start,
             _ => self.second.start,
         };
@@ -118,9 +118,8 @@ impl Checker {
             "{case}\nanswers {answer}, expected {expected}{}",
             difference(found, &ours)
         );
-        if let Ok((_, part)) = &wanted {
-            assert_part(case, answer as usize, found, part);
-        }
+        let cells = wanted.as_ref().map_or(&[][..], |(_, part)| part);
+        assert_part(case, answer, found, cells);
         self.tally.note(case, &wanted);
         wanted
     }
@@ -138,20 +137,21 @@ impl Checker {
     }
 }
 
-/// The part as the library hands it back has these cells; nothing lent changes.
-fn assert_part(case: &Case, stages: usize, lent: &mut Lent, cells: &[u8]) {
+/// The part as the library hands it back for this answer has these cells, none for a
+/// refusal; nothing lent changes.
+fn assert_part(case: &Case, answer: i64, lent: &mut Lent, cells: &[u8]) {
     let before = lent.clone();
-    let (image, length) = part_of(stages, (case.w, case.h), lent);
+    let (image, length) = part_of(answer, (case.w, case.h), lent);
     assert!(*lent == before, "{case}: the part's call changed something");
     let (first, second) = lent.images();
     let from = if image == 1 { first } else { second };
-    assert_eq!(image, reference::image_of(stages), "{case}: the image");
+    assert_eq!(image, reference::image_of(answer), "{case}: the image");
     assert_eq!(length, cells.len() as i64, "{case}: the part's length");
     assert!(from[..cells.len()] == *cells, "{case}: the part's cells");
 }
 
 /// The part's image and its length, by the library; the byte that it writes is guarded.
-pub fn part_of(stages: usize, size: (usize, usize), lent: &mut Lent) -> (u8, i64) {
+pub fn part_of(stages: i64, size: (usize, usize), lent: &mut Lent) -> (u8, i64) {
     let mut image = [0x5a; 9];
     let (_, _, first, second) = lent.parts();
     let length = library::part(stages, size, first, second, &mut image[4]);

@@ -40,7 +40,7 @@ mod boundary {
 
     extern "C" {
         pub fn musq_part(
-            stages: usize,
+            stages: i64,
             w: usize,
             h: usize,
             first: *const u8,
@@ -85,9 +85,10 @@ pub fn operate(
     }
 }
 
-/// The part's length and, in `image`, the number of the image that it is the start of.
+/// The part's length and, in `image`, the number of the image that it is the start of,
+/// for what an operation answered.
 pub fn part(
-    stages: usize,
+    stages: i64,
     (w, h): (usize, usize),
     first: &[u8],
     second: &[u8],

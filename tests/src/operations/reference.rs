@@ -28,18 +28,21 @@ pub fn directly(op: Op, x: &Plane, a: &[Point]) -> Plane {
     }
 }
 
-/// The image of which the part is the start: the second if the number is even.
-pub fn image_of(stages: usize) -> u8 {
-    match stages % 2 {
-        0 => 2,
+/// The image of which the part is the start: the second if the number of stages is even,
+/// and none, 0, for a refusal.
+pub fn image_of(stages: i64) -> u8 {
+    match stages {
+        ..=-1 => 0,
+        _ if stages % 2 == 0 => 2,
         _ => 1,
     }
 }
 
-/// The part's length and the number of its image, for images of these lengths.
-pub fn part(stages: usize, (w, h): (usize, usize), images: (usize, usize)) -> (i64, u8) {
+/// The part's length and the number of its image, for what an operation answered and
+/// images of these lengths.
+pub fn part(stages: i64, (w, h): (usize, usize), images: (usize, usize)) -> (i64, u8) {
     let image = image_of(stages);
-    let length = if image == 1 { images.0 } else { images.1 };
+    let length = [0, images.0, images.1][usize::from(image)];
     let sides = 1..=240;
     if !sides.contains(&w) || !sides.contains(&h) || length < w * h {
         return (0, image);
