@@ -1,4 +1,5 @@
 -- The invariant: the count so far and those of the cells from `j` on make the whole; each cell adds at most 1, so a byte holds those of 255.
+-- The measure is the number of cells left.
 use borrow.Author.Needs.{needs}
 use mathlib.Core.Path.{_≡_}
 use Prim.Native.Nat.{_+_, _-_, _≤_}
