@@ -24,11 +24,11 @@ expect() {
 }
 
 binders='proofs/A.antt:5:2: error: `f`: this λ has 3 binders, but its type has room for only 1'
-admitted='proofs/g/Proof.antt:5:2: error: `g-spec`: `close` was not admitted (it has holes or undetermined implicits, or was rejected), so this cannot be checked'
+admitted='proofs/g/Proof.antt:5:2: error: `g-spec`: `close` was not admitted (it has holes or was rejected), so this cannot be checked'
 scope='proofs/A.antt:5:2: error: `f`: `x` is not in scope'
 law='proofs/A.antt:5:2: error: `f`: expected type `P 1`, but this has type `P 0`'
 case='proofs/Examples.antt:5:2: error: `f`: expected type `P 1`, but this has type `P 0`'
-returns='proofs/g/Proof.antt:5:2: error: `returns`: computed as far as they go, the two types differ only where one has `1` (expected) and the other has `0` (found)'
+returns='proofs/g/Proof.antt:5:2: error: `returns`: the two types differ only where one has `1` (expected) and the other has `0` (found)'
 unproved='note: src/lib.rt:5:1: it is not proved that what the function ensures holds when it returns (`returns-2`)'
 
 expect 1 only_binders src/lib.rt "$binders"

@@ -1,4 +1,4 @@
--- What putting, the single stage and the load promise, said of points: a grid whose cells are those of a picture of 0 and 1 shows the picture's occupied points.
+-- What putting, the single stage and the load promise, said of points: a grid with the cells of a picture of 0 and 1 shows the picture's occupied points.
 use mathlib.Core.Path.{_≡_, refl, sym, _∙_, ap, subst}
 use mathlib.Core.Bool.{Bool, true, false, not, _||_}
 use mathlib.Core.List.{List, [], _∷_}
@@ -27,13 +27,14 @@ use Rattle.cleaning.specs.Operation.{Says}
 use Rattle.cleaning.proofs.Plans.{binary}
 use Rattle.cleaning.proofs.Starts.{over-length, over-past}
 use Rattle.cleaning.proofs.Turn.{says}
-use Rattle.claim.specs.Demand2.{Shown, stageMade}
+use Rattle.claim.specs.Demand2.{GridShows, stageMade}
 
-shows : (W H : ℕ) (F : Point → ℕ) (S : PointSet) (i i′ : List ℕ) → Binary F → occupied F ≐ S → gridSize W H ≤ length i → i′ ≡ written W H (laid W H F) i → Shown W H S i i′
+shows : (W H : ℕ) (F : Point → ℕ) (S : PointSet) (i i′ : List ℕ) → Binary F → occupied F ≐ S → gridSize W H ≤ length i
+    → i′ ≡ written W H (laid W H F) i → GridShows W H S i i′
 shows W H F S i i′ b s long e = record {
   size = ap length e ∙ over-length g i G G size (omega arith) long;
   past = ap (drop G) e ∙ over-past g i G G size (omega arith) long;
-  cell = λ x y h k. subst (λ n. Says n (S (pos x, pos y))) (sym (at x y h k)) (says (F (pos x, pos y)) (S (pos x, pos y)) (b (pos x, pos y)) (s (pos x, pos y)));
+  cell = λ x y h k. let p : Point = (pos x, pos y) in subst (λ n. Says n (S p)) (sym (at x y h k)) (says (F p) (S p) (b p) (s p));
 }
   where
     G : ℕ
@@ -51,7 +52,8 @@ shows W H F S i i′ b s long e = record {
         let l : y * (W + 15) + x < length g = omega (arith, size, mul-comm (W + 15) (H + 15)) in
         ap (λ v. getD v (y * (W + 15) + x) 0) e ∙ List·getD-append g (drop G i) 0 (y * (W + 15) + x) l ∙ getD-cells (W + 15) (H + 15) F x y 0 h k
 
-pub put-shown : (W H : ℕ) (f i : List ℕ) (r : Answer) (i′ : List ℕ) → FramePut W H f i r i′ → firstOf (putTests W H f i) ≡ 0 → Shown W H (occupied (frame free W H f)) i i′
+pub put-shown : (W H : ℕ) (f i : List ℕ) (r : Answer) (i′ : List ℕ) → FramePut W H f i r i′ → firstOf (putTests W H f i) ≡ 0
+    → GridShows W H (occupied (frame free W H f)) i i′
 unfolding frameTests putTests put
 put-shown W H f i r i′ p e =
     let c = clear (putTests W H f i) tt e in
@@ -64,7 +66,7 @@ made-is true P f b = E-set P f b
 made-is false P f b = D-set P f b
 
 pub stage-shown : (erode : Bool) (w W H : ℕ) (g i : List ℕ) (r : Answer) (i′ : List ℕ) → Staged erode w W H g i r i′ → firstOf (stageTests w W H g i) ≡ 0
-    → Shown W H (stageMade erode (occupied (grid free W H g)) (In (maskPoints (stageMask w)))) i i′
+    → GridShows W H (stageMade erode (occupied (grid free W H g)) (In (maskPoints (stageMask w)))) i i′
 unfolding stageTests
 stage-shown erode w W H g i r i′ p e =
     let c = clear (stageTests w W H g i) tt e in

@@ -65,7 +65,10 @@ stage-right D r i′ p = ⊎-elim
 -- one column of two rows, the second occupied, is so in the grid
 put-right : Demand2 → (r : Answer) (i′ : List ℕ) → FramePut 1 2 (0 ∷ 1 ∷ []) (replicate 273 7) r i′ → getD i′ 16 0 ≡ 1
 unfolding frameTests putTests valueAt
-put-right D r i′ p = ⊎-elim (λ q. q .0) (λ q. absurd (q .1 refl)) (D .putting 1 2 (0 ∷ 1 ∷ []) (replicate 273 7) r i′ p refl .cell 0 1 (omega arith) (omega arith))
+put-right D r i′ p = ⊎-elim
+    (λ q. q .0)
+    (λ q. absurd (q .1 refl))
+    (D .putting 1 2 (0 ∷ 1 ∷ []) (replicate 273 7) r i′ p refl .cell 0 1 (omega arith) (omega arith))
 
 counts-two : Demand2 → (r : Answer) → LoadCounted 3 1 (1 ∷ 0 ∷ 1 ∷ []) r → stated r ≡ result 2
 unfolding frameTests cells valueAt
@@ -79,7 +82,9 @@ unfolding shapeTests
 four-short D out h r out′ p = go (D fourWords out r out′ p (accepts fourWords refl out h))
   where
     few : Served fourWords out r out′ → stated r .1 ≤ 4
-    few s = let l = s .fewest (four-chain .0) in let k = four-chain .1 in let a : stated r .1 ≡ length (s .stages) + 2 = ap (λ a. a .1) (s .answer) in omega arith
+    few s =
+        let a : stated r .1 ≡ length (s .stages) + 2 = ap (λ a. a .1) (s .answer) in
+        omega (arith, s .fewest (four-chain .0), four-chain .1)
 
     go : Decided fourWords out r out′ → stated r .1 ≤ 4
     go d = ⊎-elim (λ t. absurd (d .none .0 t (four-chain .0))) few (d .plan)

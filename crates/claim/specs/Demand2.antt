@@ -26,8 +26,8 @@ use Rattle.cleaning.specs.Operation.{Says, Direct}
 use Rattle.cleaning.specs.Cleaning.{operationTests, part, Cleaned}
 use Rattle.cleaning.specs.declared.Operation.{Operation}
 
--- the image i then is i′, which shows the set S on its grid: cell (x, y) is 1 if (x, y) lies in S, and 0 if not; the length and the bytes past the grid are as before
-pub record Shown (W H : ℕ) (S : PointSet) (i i′ : List ℕ) : Type 0 where
+-- the image i then is i′, which shows the set S on its grid: cell (x, y) is 1 if (x, y) lies in S, and 0 if not; its length and the bytes past the grid stay
+pub record GridShows (W H : ℕ) (S : PointSet) (i i′ : List ℕ) : Type 0 where
   pub size : length i′ ≡ length i
   pub past : drop (gridSize W H) i′ ≡ drop (gridSize W H) i
   pub cell : (x y : ℕ) → x < W + 15 → y < H + 15 → Says (getD i′ (y * (W + 15) + x) 0) (S (pos x, pos y))
@@ -53,9 +53,9 @@ pub record Demand2 : Type 0 where
       → firstOf (operationTests plan W H f i j) ≡ 0 → Direct op W H f (In (planPoints plan)) (part (stated s .1) W H i′ j′)
   -- putting shows the frame's occupied points; a single stage those of the grid read, dilated or eroded by the mask's, with the plane free outside the grid
   pub putting : (W H : ℕ) (f i : List ℕ) (r : Answer) (i′ : List ℕ) → FramePut W H f i r i′ → firstOf (putTests W H f i) ≡ 0
-      → Shown W H (occupied (frame free W H f)) i i′
+      → GridShows W H (occupied (frame free W H f)) i i′
   pub staging : (erode : Bool) (w W H : ℕ) (g i : List ℕ) (r : Answer) (i′ : List ℕ) → Staged erode w W H g i r i′ → firstOf (stageTests w W H g i) ≡ 0
-      → Shown W H (stageMade erode (occupied (grid free W H g)) (In (maskPoints (stageMask w)))) i i′
+      → GridShows W H (stageMade erode (occupied (grid free W H g)) (In (maskPoints (stageMask w)))) i i′
   -- the load is the number of the frame's points that are occupied
   pub counting : (W H : ℕ) (f : List ℕ) (r : Answer) → LoadCounted W H f r → firstOf (frameTests W H f) ≡ 0
       → stated r ≡ result (length (keep (λ p. eqb (frame free W H f p) full) (cells W H (λ p. p))))

@@ -72,8 +72,8 @@ rightWords = 0x10000000 ∷ 0x20000002 ∷ []
 
 -- ---- frames of one row
 
--- the frame f cleaned with the shape list ws is r: directly, and as the part that is handed back for the operation's answer, the number n of stages run, given the
--- shape's plan and whatever the work images held
+-- the frame f cleaned with the shape list ws is r: directly, and as the part that is handed back for the operation's answer, given the shape's plan and
+-- whatever the work images held; the answer is the number n of stages run
 pub record CleanedAs (op : Operation) (ws plan f : List ℕ) (n : ℕ) (r : List ℕ) : Type 0 where
   pub plans : PlannedAs ws plan
   pub direct : Direct op (length f) 1 f (Shape ws) r

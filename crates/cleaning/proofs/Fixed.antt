@@ -18,4 +18,6 @@ says-once P u v (inr a) (inl b) = absurd (a .1 (b .1))
 says-once P u v (inr a) (inr b) = a .0 ∙ sym (b .0)
 
 pub direct-once : (op : Operation) (W H : ℕ) (f : List ℕ) (A : PointSet) (r s : List ℕ) → Direct op W H f A r → Direct op W H f A s → r ≡ s
-direct-once op W H f A r s D E = ext-getD 0 r s (D .size ∙ sym (E .size)) (λ k h. at-places W H (λ n. getD r n 0 ≡ getD s n 0) (λ x y a b. says-once _ _ _ (D .cell x y a b) (E .cell x y a b)) k (subst (λ n. k < n) (D .size) h))
+direct-once op W H f A r s D E =
+    ext-getD 0 r s (D .size ∙ sym (E .size))
+    (λ k h. at-places W H (λ n. getD r n 0 ≡ getD s n 0) (λ x y a b. says-once _ _ _ (D .cell x y a b) (E .cell x y a b)) k (subst (λ n. k < n) (D .size) h))

@@ -36,5 +36,7 @@ after-second erode W H f ms k t s v =
     F = frame free W H f
 
     stays : (e : Bool) → Kept e (W + 15) (H + 15) (take k ms) (over (not e) (sumOf ms) F)
-    stays true = erosion-kept (W + 15) (H + 15) (take k ms) (over false (sumOf ms) F) (first-stages k ms t) (dilation-within W H ms F s (frame-within W H f))
-    stays false = kept false W H (take k ms) (over true (sumOf ms) F) (first-stages k ms t) (small-part k ms t s) (erosion-within W H ms F t (frame-within W H f))
+    stays true =
+        erosion-kept (W + 15) (H + 15) (take k ms) (over false (sumOf ms) F) (first-stages k ms t) (dilation-within W H ms F s (frame-within W H f))
+    stays false =
+        kept false W H (take k ms) (over true (sumOf ms) F) (first-stages k ms t) (small-part k ms t s) (erosion-within W H ms F t (frame-within W H f))

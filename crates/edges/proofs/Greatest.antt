@@ -184,7 +184,9 @@ module _ (cells : List ℕ) (w : Rows16 cells) (n k : ℕ) (c : Clipped n k) (s 
       → ((i : ℕ) → i < 18 → getD r i 0 + (timesOf i * getD s (middleOf i) 0 + 128) ≡ getD s (firstOf i) 0 + getD s (secondOf i) 0 + timesOf i * 64) → Numbered cells n r
   numbered-all some r e = record {
     number = λ x y f i l. number-same clips (number-of cells w k s tops some i l (getD r i 0) (e i l));
-    none = λ f. let a = attained cells w k s tops some 0 (omega arith) in absurd (f (a .x) (a .y) (clips .to (a .x) (a .y) (record { cell = a .cell; before = a .before })));
+    none = λ f.
+        let a = attained cells w k s tops some 0 (omega arith) in
+        absurd (f (a .x) (a .y) (clips .to (a .x) (a .y) (record { cell = a .cell; before = a .before })));
   }
 
 -- where all cells lie before row n, those before it are all

@@ -37,7 +37,8 @@ starts n W H i j = go (badSize W H || ltb (length (resultImage n i j)) (W * H)) 
         ap (λ k. take k (resultImage n i j))
         (length-take-le (W * H) (resultImage n i j) (ltb-false (length (resultImage n i j)) (W * H) (or-none (badSize W H) (ltb (length (resultImage n i j)) (W * H)) e .1)))
 
-pub found : (n W H : ℕ) (i j : List ℕ) {a r : ℤ} {k : ℕ} {p : List ℕ} → pos n ≡ a → k ≡ imageOf (pos n) → p ≡ part n W H i j → r ≡ pos (length p) → PartFound a W H i j r k
+pub found : (n W H : ℕ) (i j : List ℕ) {a r : ℤ} {k : ℕ} {p : List ℕ} → pos n ≡ a → k ≡ imageOf (pos n) → p ≡ part n W H i j → r ≡ pos (length p)
+    → PartFound a W H i j r k
 found n W H i j {r = r} {k = k} s e q l =
     subst (λ a. PartFound a W H i j r k) s
     (record {
