@@ -27,7 +27,7 @@ use Rattle.claim.specs.Demand2.{Demand2}
 use Rattle.claim.specs.Demand3.{Demand3, Agrees, Decided, Served}
 use Rattle.claim.specs.Measured.{fourWords, threeWords}
 use Rattle.claim.specs.RoundTrip.{RoundTrip}
-use Rattle.claim.specs.Whole.{handedFor}
+use Rattle.claim.specs.Whole.{handedFor, Lent}
 use Rattle.claim.proofs.Measured.{accepts}
 
 -- the row of four cells has a chain of two members
@@ -99,6 +99,10 @@ closed-agrees s i′ j′ a = (a .answer, a .turns)
 nothing-handed : handedFor (13, 0) 1 1 (1 ∷ []) (1 ∷ []) ≡ []
 unfolding part
 nothing-handed = refl
+
+-- and leaves both images
+refusal-kept : (W H : ℕ) (i j i′ j′ : List ℕ) → Lent W H i j (13, 0) i′ j′ → (i′ ≡ i) × (j′ ≡ j)
+refusal-kept W H i j i′ j′ l = l .kept (λ z. let n : _≡_ {A = ℕ} 13 0 = z in omega arith)
 
 -- ---- the round trip
 

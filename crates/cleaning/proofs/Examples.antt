@@ -6,15 +6,16 @@ use native.Mathlib.Omega.{arith}
 use lib.IntN.{pos}
 use lib.ListN.{length, drop, replicate}
 use Rattle.cleaning.specs.declared.Operation.the-variants.{Dilation, Erosion, Opening, Closing}
+use Rattle.plane.specs.Lists.{In}
 use Rattle.plane.specs.Point.{_+ᵖ_, negᵖ}
 use Rattle.words.specs.Ground.{firstOf, stated, result, refusal}
 use Rattle.words.specs.declared.Answer.{Answer}
 use Rattle.masks.specs.Mask.{maskCells}
-use Rattle.shapes.specs.Plan.{planTests}
+use Rattle.shapes.specs.Plan.{planTests, planPoints}
 use Rattle.grids.specs.Grid.{once, workTests}
 use Rattle.grids.specs.Image.{cells, valueAt}
 use Rattle.cleaning.specs.Cleaning.{part, stagesRun, operationTests, Cleaned}
-use Rattle.cleaning.specs.Operation.{inTurn, lastGrid}
+use Rattle.cleaning.specs.Operation.{Direct, inTurn, lastGrid}
 
 -- ---- the part: the second image if the number is even, the first if odd
 
@@ -97,6 +98,12 @@ runs : (r : Answer) (i′ j′ : List ℕ) → Cleaned Dilation (0x30000000 ∷ 
     → (stated r ≡ result 0) × (part 0 1 1 i′ j′ ≡ 1 ∷ []) × (length i′ ≡ 257) × (drop 256 i′ ≡ 5 ∷ []) × (length j′ ≡ 257) × (drop 256 j′ ≡ 6 ∷ [])
 unfolding planTests workTests inTurn lastGrid cells valueAt _+ᵖ_ negᵖ
 runs r i′ j′ p = let q = p .done refl in (q .answer, q .handed, q .first-size, q .first-past, q .second-size, q .second-past)
+
+-- the part is what the plan's points give directly
+runs-direct : (r : Answer) (i′ j′ : List ℕ) → Cleaned Dilation (0x30000000 ∷ 0x40000f0f ∷ []) 1 1 (1 ∷ []) (replicate 256 7) (replicate 256 8) r i′ j′
+    → Direct Dilation 1 1 (1 ∷ []) (In (planPoints (0x30000000 ∷ 0x40000f0f ∷ []))) (part 0 1 1 i′ j′)
+unfolding planTests workTests _+ᵖ_ negᵖ
+runs-direct r i′ j′ p = p .done refl .direct
 
 -- and a refusal leaves both images
 runs-not : (r : Answer) (i′ j′ : List ℕ) → Cleaned Closing (0x30000000 ∷ 0x40000f0f ∷ []) 1 1 (2 ∷ []) (5 ∷ []) (6 ∷ []) r i′ j′
