@@ -1,13 +1,14 @@
 -- Worked cases of the operations: the part and the image that holds it, the number of stages run, and what the single stages give in turn.
-use mathlib.Core.Path.{_≡_, refl}
+use mathlib.Core.Path.{_≡_, refl, subst}
+use mathlib.Core.Logic.{⊎-elim}
 use mathlib.Core.List.{List, [], _∷_, _++_}
 use Prim.Native.Nat.{ℕ}
 use native.Mathlib.Omega.{arith}
 use lib.IntN.{pos}
-use lib.ListN.{length, drop, replicate}
+use lib.ListN.{length, getD, drop, replicate}
 use Rattle.cleaning.specs.declared.Operation.the-variants.{Dilation, Erosion, Opening, Closing}
 use Rattle.plane.specs.Lists.{In}
-use Rattle.plane.specs.Point.{_+ᵖ_, negᵖ}
+use Rattle.plane.specs.Point.{Point, PointSet, _+ᵖ_, negᵖ, origin, only, opening}
 use Rattle.words.specs.Ground.{firstOf, stated, result, refusal}
 use Rattle.words.specs.declared.Answer.{Answer}
 use Rattle.masks.specs.Mask.{maskCells}
@@ -15,7 +16,7 @@ use Rattle.shapes.specs.Plan.{planTests, planPoints}
 use Rattle.grids.specs.Grid.{once, workTests}
 use Rattle.grids.specs.Image.{cells, valueAt}
 use Rattle.cleaning.specs.Cleaning.{part, stagesRun, operationTests, Cleaned}
-use Rattle.cleaning.specs.Operation.{Direct, inTurn, lastGrid}
+use Rattle.cleaning.specs.Operation.{made, Direct, inTurn, lastGrid}
 
 -- ---- the part: the second image if the number is even, the first if odd
 
@@ -91,6 +92,23 @@ eroded-left = refl
 opened-still : inTurn Opening 3 1 (0 ∷ 1 ∷ 0 ∷ []) (pos 1, pos 0) [] ≡ 0 ∷ 1 ∷ 0 ∷ []
 unfolding inTurn lastGrid once cells valueAt _+ᵖ_ negᵖ
 opened-still = refl
+
+-- ---- directly
+
+-- the second of two cells is occupied, and with one point at the origin it stays where it is
+second-cell : (r : List ℕ) → Direct Dilation 2 1 (0 ∷ 1 ∷ []) (only origin) r → getD r 1 0 ≡ 1
+unfolding valueAt _+ᵖ_
+second-cell r d = ⊎-elim
+    (λ q. q .0)
+    (λ q. absurd (q .1 ((pos 1, pos 0), origin, refl, refl, refl)))
+    (d .cell 1 0 (omega arith) (omega arith))
+
+-- opening leaves only points that were there
+opening-part : (X A : PointSet) (p : Point) → opening X A p → X p
+opening-part X A p h = subst X (h .4) (h .2 (h .1) (h .3))
+
+opened-part : (X A : PointSet) (p : Point) → made Opening X A p → X p
+opened-part X A p h = opening-part X A p h
 
 -- ---- what an operation leaves: the part, and every byte past the grids
 
