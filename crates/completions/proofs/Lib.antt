@@ -6,3 +6,4 @@ pub mod Covering
 pub mod Stepping
 pub mod Nodes
 pub mod Opening
+pub mod Examples

@@ -8,6 +8,7 @@ use Rattle.plane.proofs.Tests.{lt-or-le}
 use Rattle.rows.specs.Cells.{At, bit}
 use Rattle.rows.proofs.RowBits.{no-bit}
 use Rattle.edges.specs.Edges.{plusX, plusY, minusX, minusY}
+use Rattle.faces.specs.Bits.{OnRow}
 use Rattle.faces.specs.Faces.{column, Shadow, Spaced, NeverSum}
 use Rattle.faces.proofs.Shadows.{no-columns}
 
@@ -47,3 +48,8 @@ pub no-sum : NeverSum (At cells)
 no-sum = no-columns (At cells) 4 (⊎-elim
     (λ s. off-face 1 refl (s .1 .next 0 2 (on-face 0 refl) (on-face 2 refl) (omega arith)))
     (λ s. off-face 4 refl (s .1 .next 2 3 (on-face 2 refl) (on-face 3 refl) (omega arith))))
+
+-- cell (0, 0) has the value 0 in the direction (1, 0), kept as 64
+first-on-row : OnRow 0 cells 64 0
+unfolding plusX plusY minusX minusY
+first-on-row = record { x = 0; cell = refl; at = refl }

@@ -1,13 +1,13 @@
 -- Worked cases of readings and pages.
-use mathlib.Core.Path.{_≡_, refl}
+use mathlib.Core.Path.{_≡_, refl, sym, _∙_, ap}
 use mathlib.Core.Bool.{true, false}
 use mathlib.Core.List.{List, [], _∷_, _++_}
 use Prim.Native.Nat.{ℕ}
 use native.Mathlib.Omega.{arith}
-use lib.ListN.{replicate}
+use lib.ListN.{take, replicate}
 use Rattle.planning.specs.Printer.{wordLines, refusedLine, Reads}
 use Rattle.text.specs.Page.{Holds}
-use Rattle.text.specs.Reader.{lowest, Held}
+use Rattle.text.specs.Reader.{lowest, Begun, Held}
 use Rattle.text.specs.declared.page.Page.{Page}
 use Rattle.text.specs.declared.read.Reading.{Reading}
 use Rattle.text.proofs.Lines.{next-byte, digit-none}
@@ -45,3 +45,7 @@ ten = record { n = 11; bytes = 114 ∷ 101 ∷ 102 ∷ 117 ∷ 115 ∷ 101 ∷ 1
 ten-held : Holds (refusedLine 10) ten
 unfolding ten
 ten-held = record { fits = omega arith; count = refl; bytes = refl }
+
+-- where 18 words are counted, the first 18 lines are kept
+eighteen-kept : (seen : List ℕ) (s : Reading) (b : Begun seen s) → s .count ≡ 18 → take 18 (s .words) ≡ take 18 (b .lines)
+eighteen-kept seen s b e = ap (λ n. take n (s .words)) (sym e) ∙ b .kept
