@@ -5,3 +5,4 @@ pub mod Marking
 pub mod Lengths
 pub mod Asked
 pub mod Questions
+pub mod Examples

@@ -3,3 +3,4 @@ pub mod Turning
 pub mod Writing
 pub mod Calls
 pub mod Tested
+pub mod Examples
