@@ -1,11 +1,11 @@
 -- What putting, the single stage and the load promise, said of points: a grid with the cells of a picture of 0 and 1 shows the picture's occupied points.
-use mathlib.Core.Path.{_≡_, refl, sym, _∙_, ap, subst}
-use mathlib.Core.Bool.{Bool, true, false, not, _||_}
-use mathlib.Core.List.{List, [], _∷_}
+use mathlib.Core.Path.{_≡_, sym, _∙_, ap, subst}
+use mathlib.Core.Bool.{Bool, true, false}
+use mathlib.Core.List.{List}
 use Prim.Native.Nat.{ℕ, suc, _+_, _*_, _<_, _≤_, zero-le}
 use native.Mathlib.Omega.{arith}
 use native.Mathlib.Nat.{mul-comm, mul-le-mul-right}
-use lib.Dec.{T, eqb, eqb→eq, nltb→le}
+use lib.Dec.{eqb, eqb→eq, nltb→le}
 use lib.IntN.{pos}
 use lib.ListN.{length, getD, drop, List·getD-append}
 use Rattle.plane.specs.Lists.{In, keep}
@@ -14,10 +14,10 @@ use Rattle.plane.proofs.Tests.{not-or, un-not}
 use Rattle.words.specs.Ground.{firstOf, stated, result}
 use Rattle.words.specs.Word.{stageMask}
 use Rattle.words.specs.declared.Answer.{Answer}
-use Rattle.words.proofs.Refusals.{clear, clear-first, clear-last}
+use Rattle.words.proofs.Refusals.{clear}
 use Rattle.masks.specs.Mask.{maskPoints}
 use Rattle.grids.specs.Frame.{free, full, over, frame, occupied, gridSize, shortImage, frameTests, LoadCounted}
-use Rattle.grids.specs.Grid.{grid, laid, put, once, written, putTests, FramePut, stageTests, Staged}
+use Rattle.grids.specs.Grid.{grid, laid, put, written, putTests, FramePut, stageTests, Staged}
 use Rattle.grids.specs.Image.{cells}
 use Rattle.grids.proofs.Load.{load-points}
 use Rattle.grids.proofs.Pictures.{getD-cells, length-cells}

@@ -1,5 +1,5 @@
 -- A case of what is said where nothing completes a sum: not one mask of the list does, either.
-use mathlib.Core.Path.{refl, sym}
+use mathlib.Core.Path.{sym}
 use mathlib.Core.Logic.{⊎-elim}
 use mathlib.Core.Bool.{Bool}
 use mathlib.Core.List.{List, [], _∷_}

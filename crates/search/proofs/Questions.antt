@@ -13,7 +13,7 @@ use Rattle.masks.proofs.Cells.{Low, normal-low, stage-normal, stage-below}
 use Rattle.stages.specs.Reach.{reach}
 use Rattle.stages.proofs.Stages.{reach-some}
 use Rattle.rows.proofs.Bridge.{mask-cells}
-use Rattle.rows.specs.Cells.{Cells, Same, Sum, At, AtMask, AtOrigin, AtSum, chosen}
+use Rattle.rows.specs.Cells.{Same, At, AtMask, AtOrigin, AtSum, chosen}
 use Rattle.rows.proofs.Addition.{same-sym, same-trans, to-cell}
 use Rattle.rows.proofs.Sums.{Rows16, in-y, zero-at}
 use Rattle.extents.specs.Extents.{Greatest, row, column}
