@@ -8,6 +8,7 @@ use lib.Dec.{T, eqb, eqb→eq}
 use Rattle.words.specs.declared.Answer.{Answer}
 use Rattle.plane.proofs.Tests.{T-dec, clash, eq-eqb}
 use Rattle.words.specs.Ground.{Test, firstOf, stated, result, Answered}
+use Rattle.words.proofs.Tested.{promised-number}
 use Rattle.words.specs.Word.{stageMask}
 use Rattle.shapes.specs.Calls.{ListWritten, movedPoints, movingTests, joinedPoints, joiningTests, summedPoints, summingTests, turningTests}
 use Rattle.shapes.specs.Plan.{planPoints}
@@ -22,11 +23,7 @@ ground : {a b : ℕ × ℕ} → a ≡ b → a .0 ≡ b .0
 ground e = ap (λ a. a .0) e
 
 first : (tests : List Test) (r : Answer) (U W : Type 0) → Answered tests r U W → (W → stated r .0 ≡ 0) → First tests r U
-first tests r U W a w = go (T-dec (eqb (firstOf tests) 0))
-  where
-    go : T (eqb (firstOf tests) 0) ⊎ T (not (eqb (firstOf tests) 0)) → First tests r U
-    go (inl t) = let e = eqb→eq (firstOf tests) 0 t in let z = w (a .done e) in (z ∙ sym e, λ n. absurd (n z))
-    go (inr n) = let q = a .refused (λ e. clash (eqb (firstOf tests) 0) n (eq-eqb e)) in (ground (q .0), λ _. q .1)
+first tests r U W a w = promised-number tests (stated r .0) (λ _ e. ground e) w a
 
 -- planning: another ground, 10, or a plan
 plan-first : (ws out : List ℕ) (r : Answer) (out′ : List ℕ) → Planned ws out r out′

@@ -1,4 +1,3 @@
 pub mod Sides
 pub mod Loops
-pub mod Tested
 pub mod Accepted

@@ -7,8 +7,9 @@ mod stage;
 use words::Answer;
 use words::Ground;
 ghost use mathlib.Core.Path.{_≡_};
+ghost use mathlib.Core.Bool.{false};
 ghost use Rattle.words.specs.Ground.{stated, refusal, firstOf};
-ghost use Rattle.grids.specs.Frame.{badSize, frameTests, LoadCounted};
+ghost use Rattle.grids.specs.Frame.{badSize, wrongLength, badCell, frameTests, LoadCounted};
 ghost use Rattle.grids.specs.Grid.{putTests, stageTests, workTests};
 
 // Ground 11: whether W or H isn't 1 to 240.
@@ -18,21 +19,28 @@ pub fn bad_size(w: usize, h: usize) -> bool
     sizes::bad_size(w, h)
 }
 
+// Ground 13: whether a cell of a frame is above 1. It follows grounds 11 and 12, so nothing is said of a frame that these refuse, and none of its cells is
+// looked at.
+fn bad_cells(w: usize, h: usize, frame: &[u8]) -> bool
+    ensures { λ r. ⌜ (badSize w h ≡ false → wrongLength w h (now (frame .entry)) ≡ false → r ≡ badCell (now (frame .entry))) ⌝ }
+{
+    if sizes::bad_size(w, h) {
+        return false;
+    }
+    if sizes::wrong_length(w, h, frame) {
+        return false;
+    }
+    let n = w * h;
+    cells::bad_among(frame, n)
+}
+
 // What refuses a frame: the first of grounds 11, 12 and 13 that holds.
 pub fn frame_refusal(w: usize, h: usize, frame: &[u8]) -> Answer
     ensures { λ r. ⌜ stated r ≡ refusal (firstOf (frameTests w h (now (frame .entry)))) ⌝ }
 {
-    if sizes::bad_size(w, h) {
-        return Answer::Refused(Ground::FrameSize);
-    }
-    if sizes::wrong_length(w, h, frame) {
-        return Answer::Refused(Ground::FrameLength);
-    }
-    let n = w * h;
-    if cells::bad_among(frame, n) {
-        return Answer::Refused(Ground::CellValue);
-    }
-    Answer::Done(0)
+    let size = words::tried(Answer::Done(0), sizes::bad_size(w, h), Ground::FrameSize);
+    let length = words::tried(size, sizes::wrong_length(w, h, frame), Ground::FrameLength);
+    words::tried(length, bad_cells(w, h, frame), Ground::CellValue)
 }
 
 // What refuses a frame that is put into a grid of the image: the first of grounds 11 to 14 that holds.
@@ -40,13 +48,7 @@ pub fn put_refusal(w: usize, h: usize, frame: &[u8], image: &[u8]) -> Answer
     ensures { λ r. ⌜ stated r ≡ refusal (firstOf (putTests w h (now (frame .entry)) (now (image .entry)))) ⌝ }
 {
     let tested = frame_refusal(w, h, frame);
-    if let Answer::Refused(ground) = tested {
-        return Answer::Refused(ground);
-    }
-    if sizes::short_image(w, h, image) {
-        return Answer::Refused(Ground::ImageLength);
-    }
-    Answer::Done(0)
+    words::tried(tested, sizes::short_image(w, h, image), Ground::ImageLength)
 }
 
 // What refuses a frame and two work images: the first of grounds 11 to 14 that holds, 14 over both images.
@@ -54,13 +56,11 @@ pub fn work_refusal(w: usize, h: usize, frame: &[u8], first: &[u8], second: &[u8
     ensures { λ r. ⌜ stated r ≡ refusal (firstOf (workTests w h (now (frame .entry)) (now (first .entry)) (now (second .entry)))) ⌝ }
 {
     let tested = frame_refusal(w, h, frame);
-    if let Answer::Refused(ground) = tested {
-        return Answer::Refused(ground);
-    }
-    if sizes::short_images(w, h, first, second) {
-        return Answer::Refused(Ground::ImageLength);
-    }
-    Answer::Done(0)
+    words::tried(
+        tested,
+        sizes::short_images(w, h, first, second),
+        Ground::ImageLength,
+    )
 }
 
 // What refuses the single stage of a word, from the grid of one image into another: the first of grounds 2, 3, 7, 11, 13 and 14 that holds.

@@ -23,11 +23,13 @@ pub(crate) fn bad_size(w: usize, h: usize) -> bool
     bad_side(h)
 }
 
-// Ground 12: whether the frame's length isn't W × H.
+// Ground 12: whether the frame's length isn't W × H. It follows ground 11, so nothing is said of sides that this refuses.
 pub(crate) fn wrong_length(w: usize, h: usize, frame: &[u8]) -> bool
-    requires { ⌜ badSize w h ≡ false ⌝ }
-    ensures { λ r. ⌜ r ≡ wrongLength w h (now (frame .entry)) ⌝ }
+    ensures { λ r. ⌜ (badSize w h ≡ false → r ≡ wrongLength w h (now (frame .entry))) ⌝ }
 {
+    if bad_size(w, h) {
+        return false;
+    }
     frame.len() != w * h
 }
 
@@ -39,18 +41,19 @@ pub(crate) fn grid_size(w: usize, h: usize) -> usize
     (w + 15) * (h + 15)
 }
 
-// Ground 14: whether a work image is shorter than the grid.
+// Ground 14: whether a work image is shorter than the grid. It follows ground 11, so nothing is said of sides that this refuses.
 pub(crate) fn short_image(w: usize, h: usize, image: &[u8]) -> bool
-    requires { ⌜ badSize w h ≡ false ⌝ }
-    ensures { λ r. ⌜ r ≡ shortImage w h (now (image .entry)) ⌝ }
+    ensures { λ r. ⌜ (badSize w h ≡ false → r ≡ shortImage w h (now (image .entry))) ⌝ }
 {
+    if bad_size(w, h) {
+        return false;
+    }
     image.len() < grid_size(w, h)
 }
 
 // Ground 14 of two work images: whether either is shorter than the grid.
 pub(crate) fn short_images(w: usize, h: usize, first: &[u8], second: &[u8]) -> bool
-    requires { ⌜ badSize w h ≡ false ⌝ }
-    ensures { λ r. ⌜ r ≡ (shortImage w h (now (first .entry)) || shortImage w h (now (second .entry))) ⌝ }
+    ensures { λ r. ⌜ (badSize w h ≡ false → r ≡ (shortImage w h (now (first .entry)) || shortImage w h (now (second .entry)))) ⌝ }
 {
     if short_image(w, h, first) {
         return true;

@@ -19,27 +19,21 @@ fn bad_grid(w: usize, h: usize, image: &[u8]) -> bool
     cells::bad_among(image, n)
 }
 
-// The first ground that holds.
+// The first ground that holds. The grid is looked at where the word and the sides pass theirs.
 pub(crate) fn refused(word: u32, w: usize, h: usize, from: &[u8], to: &[u8]) -> Answer
     ensures { λ r. ⌜ stated r ≡ refusal (firstOf (stageTests word w h (now (from .entry)) (now (to .entry)))) ⌝ }
 {
-    if word / 268435456 != 5 {
-        return Answer::Refused(Ground::WordKind);
+    let kind = words::tried(Answer::Done(0), word / 268435456 != 5, Ground::WordKind);
+    let bit = words::tried(kind, word % 268435456 >= 512, Ground::ExtraBit);
+    let mask = words::tried(bit, !stages::is_stage(word % 512), Ground::StageMask);
+    let size = words::tried(mask, sizes::bad_size(w, h), Ground::FrameSize);
+    if let Answer::Refused(ground) = size {
+        return Answer::Refused(ground);
     }
-    if word % 268435456 >= 512 {
-        return Answer::Refused(Ground::ExtraBit);
-    }
-    if !stages::is_stage(word % 512) {
-        return Answer::Refused(Ground::StageMask);
-    }
-    if sizes::bad_size(w, h) {
-        return Answer::Refused(Ground::FrameSize);
-    }
-    if bad_grid(w, h, from) {
-        return Answer::Refused(Ground::CellValue);
-    }
-    if sizes::short_images(w, h, from, to) {
-        return Answer::Refused(Ground::ImageLength);
-    }
-    Answer::Done(0)
+    let cell = words::tried(size, bad_grid(w, h, from), Ground::CellValue);
+    words::tried(
+        cell,
+        sizes::short_images(w, h, from, to),
+        Ground::ImageLength,
+    )
 }

@@ -12,9 +12,9 @@ use borrow.Author.Tests.{le-leb}
 use Rattle.plane.specs.Point.{Point}
 use Rattle.plane.proofs.Tests.{T-false, not-or, un-not}
 use Rattle.words.specs.declared.Answer.{Answer}
-use Rattle.words.specs.Ground.{Test, firstOf, stated, result, Answered}
+use Rattle.words.specs.Ground.{firstOf, stated, result}
 use Rattle.words.specs.Word.{stageMask}
-use Rattle.words.proofs.Refusals.{clear}
+use Rattle.words.proofs.Refusals.{clear, promised-done}
 use Rattle.grids.specs.Frame.{free, badSize, gridSize, shortImage, frameTests}
 use Rattle.grids.specs.Grid.{grid, once, written, putTests, stageTests, FramePut, Staged}
 use Rattle.grids.proofs.Stage.{bytes-binary, once-size}
@@ -25,12 +25,6 @@ use Rattle.runs.specs.Runs.{over}
 use Rattle.planes.specs.Planes.{byteRows, planeSize, Shows, packFits, FramePacked, stageFits, PlaneTaken, planeCells, unpackFits}
 use Rattle.planes.proofs.OnGrids.{low-view, after-once, plane-fits, kept-drop, grid-pack, grid-stage, grid-unpack, shown-cut}
 use Rattle.framing.specs.Staging.{StageReady}
-
--- ---- calls
-
-module _ {Unchanged Work : Type 0} (ts : List Test) (r : Answer) where
-  pub done-call : firstOf ts ≡ 0 → Work → Answered ts r Unchanged Work
-  done-call z w = record { refused = λ n. absurd (n z); done = λ _. w }
 
 -- ---- what fits
 
@@ -55,7 +49,7 @@ module _ (W H : ℕ) (f i : List ℕ) (z : firstOf (putTests W H f i) ≡ 0) whe
   pub put-done : (b : Bool) (i′ : List ℕ) (r : Answer) → stated r ≡ result 0 → Cut free (W + 15) (H + 15) W H 15 15 f i b i′ → FramePut W H f i r i′
   put-done b i′ r a F =
       let t = put-fits W H put-sides (length f) (length i) (omega (arith, passed .1)) (passed .2) in
-      done-call (putTests W H f i) r z (record { answer = a; image = F .done t ∙ ap (λ g. g ++ drop (gridSize W H) i) (sym (put-is-cut W H f)) })
+      promised-done (putTests W H f i) z (record { answer = a; image = F .done t ∙ ap (λ g. g ++ drop (gridSize W H) i) (sym (put-is-cut W H f)) })
 
 -- ---- the single stage
 
@@ -68,7 +62,7 @@ module _ (w W H : ℕ) (g i : List ℕ) (z : firstOf (stageTests w W H g i) ≡ 
       record { sides = T-false (badSize W H) (c .1 .1 .1 .0); cells = c .1 .1 .1 .1 .0; read = nltb→le (length g) (gridSize W H) (l .0); room = nltb→le (length i) (gridSize W H) (l .1) }
 
   pub stage-done : (erode : Bool) (i′ : List ℕ) (r : Answer) → stated r ≡ result 0 → i′ ≡ written W H (once erode free W H (stageMask w) g) i → Staged erode w W H g i r i′
-  stage-done erode i′ r a e = done-call (stageTests w W H g i) r z (record { answer = a; image = e })
+  stage-done erode i′ r a e = promised-done (stageTests w W H g i) z (record { answer = a; image = e })
 
 -- the grid is packed into a plane in the image i, taken through the stage into the plane that was p₀, and unpacked over all of the first plane
 module _ (erode : Bool) (W H m : ℕ) {g i : List ℕ} (r : StageReady W H g i) where

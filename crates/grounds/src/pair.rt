@@ -52,21 +52,14 @@ fn wrong_rows(ws: &[u32], vs: &[u32]) -> bool
     shape::wrong_rows(vs)
 }
 
-// The first ground that holds, tried over both lists.
+// The first ground that holds, tried over both lists. Their words are looked at where both lengths pass ground 1.
 pub(crate) fn refused(ws: &[u32], vs: &[u32]) -> Answer
     ensures { λ r. ⌜ stated r ≡ refusal (firstOf (both (shapeTests (now (ws .entry))) (shapeTests (now (vs .entry))))) ⌝ }
 {
     if wrong_lengths(ws, vs) {
         return Answer::Refused(Ground::ListLength);
     }
-    if wrong_kinds(ws, vs) {
-        return Answer::Refused(Ground::WordKind);
-    }
-    if extra_bits(ws, vs) {
-        return Answer::Refused(Ground::ExtraBit);
-    }
-    if wrong_rows(ws, vs) {
-        return Answer::Refused(Ground::RowOrder);
-    }
-    Answer::Done(0)
+    let kinds = words::tried(Answer::Done(0), wrong_kinds(ws, vs), Ground::WordKind);
+    let bits = words::tried(kinds, extra_bits(ws, vs), Ground::ExtraBit);
+    words::tried(bits, wrong_rows(ws, vs), Ground::RowOrder)
 }

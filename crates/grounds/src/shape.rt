@@ -69,21 +69,14 @@ pub(crate) fn wrong_rows(ws: &[u32]) -> bool
     not_rising(ws)
 }
 
-// The first ground that holds.
+// The first ground that holds. The words of a list are looked at where its length passes ground 1.
 pub(crate) fn refused(ws: &[u32]) -> Answer
     ensures { λ r. ⌜ stated r ≡ refusal (firstOf (shapeTests (now (ws .entry)))) ⌝ }
 {
     if lists::wrong_length(ws, 2, 17) {
         return Answer::Refused(Ground::ListLength);
     }
-    if wrong_kinds(ws) {
-        return Answer::Refused(Ground::WordKind);
-    }
-    if extra_bits(ws) {
-        return Answer::Refused(Ground::ExtraBit);
-    }
-    if wrong_rows(ws) {
-        return Answer::Refused(Ground::RowOrder);
-    }
-    Answer::Done(0)
+    let kinds = words::tried(Answer::Done(0), wrong_kinds(ws), Ground::WordKind);
+    let bits = words::tried(kinds, extra_bits(ws), Ground::ExtraBit);
+    words::tried(bits, wrong_rows(ws), Ground::RowOrder)
 }

@@ -141,23 +141,13 @@ pub fn plan_refusal(ws: &[u32]) -> Answer
     if lists::wrong_length(ws, 2, 32) {
         return Answer::Refused(Ground::ListLength);
     }
-    if wrong_kinds(ws) {
-        return Answer::Refused(Ground::WordKind);
+    let kinds = words::tried(Answer::Done(0), wrong_kinds(ws), Ground::WordKind);
+    let bits = words::tried(kinds, extra_bits(ws), Ground::ExtraBit);
+    let count = words::tried(bits, wrong_count(ws), Ground::StageCount);
+    let place = words::tried(count, wrong_place(ws), Ground::PlaceField);
+    let masks = words::tried(place, wrong_masks(ws), Ground::StageMask);
+    if let Answer::Refused(ground) = masks {
+        return Answer::Refused(ground);
     }
-    if extra_bits(ws) {
-        return Answer::Refused(Ground::ExtraBit);
-    }
-    if wrong_count(ws) {
-        return Answer::Refused(Ground::StageCount);
-    }
-    if wrong_place(ws) {
-        return Answer::Refused(Ground::PlaceField);
-    }
-    if wrong_masks(ws) {
-        return Answer::Refused(Ground::StageMask);
-    }
-    if out_of_range(ws) {
-        return Answer::Refused(Ground::OutOfRange);
-    }
-    Answer::Done(0)
+    words::tried(masks, out_of_range(ws), Ground::OutOfRange)
 }

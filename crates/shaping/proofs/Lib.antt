@@ -2,5 +2,4 @@ pub mod Reading
 pub mod Turning
 pub mod Writing
 pub mod Calls
-pub mod Tested
 pub mod Examples

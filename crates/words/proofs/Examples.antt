@@ -1,11 +1,15 @@
 -- Worked cases of words and of the order of grounds.
-use mathlib.Core.Path.{_≡_, refl}
+use mathlib.Core.Path.{_≡_, refl, ap}
 use mathlib.Core.Bool.{true, false}
-use mathlib.Core.List.{[], _∷_}
+use mathlib.Core.List.{List, [], _∷_}
+use Prim.Native.Nat.{ℕ}
+use Rattle.plane.proofs.Tests.{eq-eqb}
 use Rattle.words.specs.declared.Word.the-variants.{Anchor, Row, Head, Place, Stage, Unused}
-use Rattle.words.specs.Ground.{firstOf, both}
+use Rattle.words.specs.Ground.{Test, firstOf, both, Promised}
 use Rattle.words.specs.Read.{wordOf}
 use Rattle.words.specs.Word.{kind, anchorKind, rowKind, headKind, placeKind, stageKind, anchorX, anchorY, anchorWord, rowY, rowColumns, rowWord, headCount, headWord, placeX, placeY, placeWord, stageMask, stageWord, extraBit, wrongKind}
+use Rattle.words.proofs.Refusals.{promised-done, promised-refusal}
+use Rattle.words.proofs.Tested.{promised-number}
 
 -- ---- words
 
@@ -70,3 +74,19 @@ named-27 = (refl, refl)
 -- a kind above and a kind below the one called for are both wrong
 kind-not : (wrongKind rowKind 0x20000001 ≡ false) × (wrongKind rowKind 0x30000001 ≡ true) × (wrongKind rowKind 0x10000001 ≡ true)
 kind-not = (refl, refl, refl)
+
+-- ---- an answer of another type: two numbers, or a refusal by a ground, told as (ground, number, number)
+
+-- what a call with these tests promises that answers 3 and 4 where none holds
+abbrev Two : List Test → ℕ × ℕ × ℕ → Type 0
+Two tests told = Promised tests (λ k. told ≡ (k, 0, 0)) Unit (told ≡ (0, 3, 4))
+
+two-done : Two ((11, false) ∷ (12, false) ∷ []) (0, 3, 4)
+two-done = promised-done ((11, false) ∷ (12, false) ∷ []) refl refl
+
+two-refused : Two ((11, false) ∷ (12, true) ∷ (13, true) ∷ []) (12, 0, 0)
+two-refused = promised-refusal ((11, false) ∷ (12, true) ∷ (13, true) ∷ []) (λ e. eq-eqb e) refl tt
+
+-- the promise fixes the ground that is answered
+two-first : (told : ℕ × ℕ × ℕ) → Two ((11, false) ∷ (12, true) ∷ (13, true) ∷ []) told → told .0 ≡ 12
+two-first told p = promised-number ((11, false) ∷ (12, true) ∷ (13, true) ∷ []) (told .0) (λ k e. ap (λ t. t .0) e) (λ e. ap (λ t. t .0) e) p .0

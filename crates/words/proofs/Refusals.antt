@@ -9,7 +9,7 @@ use lib.Dec.{T, ltb, eqb, ltb→lt}
 use lib.ListN.{getD, drop}
 use Rattle.plane.specs.Lists.{all}
 use Rattle.plane.proofs.Tests.{T-and, not-or, eq-eqb}
-use Rattle.words.specs.Ground.{Test, firstOf, numberOf, stated, result, refusal, both, Answered}
+use Rattle.words.specs.Ground.{Test, firstOf, numberOf, stated, result, refusal, both, Tried, Promised}
 use Rattle.words.specs.declared.Ground.{Ground}
 use Rattle.words.specs.declared.Ground.the-variants.{ListLength, WordKind, ExtraBit, RowOrder, StageCount, PlaceField, StageMask, OutOfRange, OutputLength, NoChain, FrameSize, FrameLength, CellValue, ImageLength}
 use Rattle.words.specs.declared.Answer.{Answer}
@@ -101,18 +101,27 @@ both-clear (t ∷ ts) (u ∷ us) c =
 
 -- ---- calls
 
-module _ {Unchanged Work : Type 0} (ts us : List Test) (r : Answer) where
+-- the answer may be of any type
+module _ {Refuses : ℕ → Type 0} {Unchanged Work : Type 0} (ts : List Test) where
+  -- where no test holds, the work is all that is promised
+  pub promised-done : firstOf ts ≡ 0 → Work → Promised ts Refuses Unchanged Work
+  promised-done z w = record { refused = λ n. absurd (n z); done = λ _. w }
+
+  -- where one holds, the refusal is
+  pub promised-refusal : firstOf ts ≢ 0 → Refuses (firstOf ts) → Unchanged → Promised ts Refuses Unchanged Work
+  promised-refusal n e u = record { refused = λ _. (e, u); done = λ z. absurd (n z) }
+
   -- where one of the first tests holds, a call with more tests refuses with it
-  pub answered-first : firstOf ts ≢ 0 → stated r ≡ refusal (firstOf ts) → Unchanged → Answered (ts ++ us) r Unchanged Work
-  answered-first n e u = record {
-    refused = λ _. (e ∙ ap refusal (sym (first-append ts us n)), u);
+  pub promised-first : (us : List Test) → firstOf ts ≢ 0 → Refuses (firstOf ts) → Unchanged → Promised (ts ++ us) Refuses Unchanged Work
+  promised-first us n e u = record {
+    refused = λ _. (subst Refuses (sym (first-append ts us n)) e, u);
     done = λ z. absurd (n (sym (first-append ts us n) ∙ z));
   }
 
   -- where none of them holds, the rest decide
-  pub answered-rest : Clear ts → Answered us r Unchanged Work → Answered (ts ++ us) r Unchanged Work
-  answered-rest c a = record {
-    refused = λ n. let q = a .refused (λ z. n (rest-append ts us c ∙ z)) in (q .0 ∙ ap refusal (sym (rest-append ts us c)), q .1);
+  pub promised-rest : (us : List Test) → Clear ts → Promised us Refuses Unchanged Work → Promised (ts ++ us) Refuses Unchanged Work
+  promised-rest us c a = record {
+    refused = λ n. let q = a .refused (λ z. n (rest-append ts us c ∙ z)) in (subst Refuses (sym (rest-append ts us c)) (q .0), q .1);
     done = λ z. a .done (sym (rest-append ts us c) ∙ z);
   }
 
@@ -180,3 +189,58 @@ refused-some g k e z = absurd (subst T (ground-some g) (eq-eqb (ap (λ s. s .0) 
 
 pub done-none : (n k : ℕ) → stated (Done n) ≡ refusal k → k ≡ 0
 done-none n k e = sym (ap (λ s. s .0) e)
+
+-- ---- one ground more
+
+apart : (n : ℕ) (f : Ground) → Done n ≡ Refused f → ⊥
+apart n f e = refused-some f (numberOf f) refl (sym (ap (λ r. stated r .0) e))
+
+module _ (a : Answer) (holds : Bool) (g : Ground) where
+  -- a ground before it refuses
+  pub tried-refused : (f : Ground) → a ≡ Refused f → Tried a holds g (Refused f)
+  tried-refused f q = record {
+    stays = λ h e. sym q ∙ e;
+    refuses = λ n e t. absurd (apart n f (sym e ∙ q));
+    passes = λ n e t. absurd (apart n f (sym e ∙ q));
+  }
+
+  -- none does, so it decides
+  pub tried-holds : (m : ℕ) → a ≡ Done m → holds ≡ true → Tried a holds g (Refused g)
+  tried-holds m q h = record {
+    stays = λ f e. absurd (apart m f (sym q ∙ e));
+    refuses = λ n e t. refl;
+    passes = λ n e t. absurd (subst T (sym h ∙ t) tt);
+  }
+
+  pub tried-fails : (m : ℕ) → a ≡ Done m → holds ≡ false → Tried a holds g (Done m)
+  tried-fails m q h = record {
+    stays = λ f e. absurd (apart m f (sym q ∙ e));
+    refuses = λ n e t. absurd (subst T (sym t ∙ h) tt);
+    passes = λ n e t. sym q ∙ e;
+  }
+
+-- the answer for some tests becomes the answer for one more behind them. What was tried has to be the test's value b only where no test before it holds,
+-- so that what is tested may lean on them
+pub tried-more : {a : Answer} {holds : Bool} {g : Ground} {r : Answer} → Tried a holds g r → (ts : List Test) (b : Bool) → T (numbered ts) → stated a ≡ refusal (firstOf ts)
+    → (firstOf ts ≡ 0 → holds ≡ b) → stated r ≡ refusal (firstOf (ts ++ (numberOf g, b) ∷ []))
+tried-more {a} {holds} {g} {r} t ts b n e f = go a refl
+  where
+    -- where no test before it holds, it decides
+    decides : firstOf ts ≡ 0 → firstOf (ts ++ (numberOf g, b) ∷ []) ≡ cond holds (numberOf g) 0
+    decides z = rest-append ts ((numberOf g, b) ∷ []) (clear ts n z) ∙ ap (λ h. cond h (numberOf g) 0) (sym (f z))
+
+    go : (a′ : Answer) → a ≡ a′ → stated r ≡ refusal (firstOf (ts ++ (numberOf g, b) ∷ []))
+    go (Refused h) q =
+        let said = ap stated (sym q) ∙ e in
+        ap stated (t .stays h q) ∙ said ∙ ap refusal (sym (first-append ts ((numberOf g, b) ∷ []) (refused-some h (firstOf ts) said)))
+    go (Done m) q = by holds refl
+      where
+        said : stated (Done m) ≡ refusal (firstOf ts)
+        said = ap stated (sym q) ∙ e
+
+        none : firstOf ts ≡ 0
+        none = done-none m (firstOf ts) said
+
+        by : (h : Bool) → holds ≡ h → stated r ≡ refusal (firstOf (ts ++ (numberOf g, b) ∷ []))
+        by true h = ap stated (t .refuses m q h) ∙ ap refusal (sym (decides none ∙ ap (λ h. cond h (numberOf g) 0) h))
+        by false h = ap stated (t .passes m q h) ∙ said ∙ ap refusal (none ∙ sym (decides none ∙ ap (λ h. cond h (numberOf g) 0) h))

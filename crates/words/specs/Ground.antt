@@ -2,7 +2,7 @@
 -- Each call has a list of numbered tests in checking order; a ground added later is one line more in the lists of the calls that meet it.
 use mathlib.Core.Path.{_≡_}
 use mathlib.Core.Logic.{_≢_}
-use mathlib.Core.Bool.{Bool, cond, _||_}
+use mathlib.Core.Bool.{Bool, true, false, cond, _||_}
 use mathlib.Core.List.{List, [], _∷_}
 use Prim.Native.Nat.{ℕ}
 use Rattle.words.specs.declared.Ground.{Ground}
@@ -48,13 +48,24 @@ abbrev pub firstOf : List Test → ℕ
 firstOf [] = 0
 firstOf (t ∷ ts) = let r = firstOf ts in cond (t .1) (t .0) r
 
+-- one ground more, tried behind those that the answer a is for: a refusal stays, and else the ground g refuses where its test holds
+pub record Tried (a : Answer) (holds : Bool) (g : Ground) (r : Answer) : Type 0 where
+  pub stays : (f : Ground) → a ≡ Refused f → r ≡ Refused f
+  pub refuses : (n : ℕ) → a ≡ Done n → holds ≡ true → r ≡ Refused g
+  pub passes : (n : ℕ) → a ≡ Done n → holds ≡ false → r ≡ Done n
+
 -- the tests of two lists that meet the same grounds: each ground is tried over both before the next
 abbrev pub both : List Test → List Test → List Test
 both [] us = us
 both (t ∷ ts) [] = t ∷ ts
 both (t ∷ ts) (u ∷ us) = (t .0, t .1 || u .1) ∷ both ts us
 
--- what a call with these tests does: where one holds, the first is the answer and all that is lent stays as it is; else the call does its work
-pub record Answered (tests : List Test) (r : Answer) (Unchanged Work : Type 0) : Type 0 where
-  pub refused : firstOf tests ≢ 0 → (stated r ≡ refusal (firstOf tests)) × Unchanged
+-- what a call with these tests does, of whatever type its answer is: where one holds, the answer refuses by the first, and all that is lent stays as it is;
+-- else the call does its work. Refuses k: the answer is the refusal by the ground k
+pub record Promised (tests : List Test) (Refuses : ℕ → Type 0) (Unchanged Work : Type 0) : Type 0 where
+  pub refused : firstOf tests ≢ 0 → Refuses (firstOf tests) × Unchanged
   pub done : firstOf tests ≡ 0 → Work
+
+-- the same of a call that hands back an `Answer`
+abbrev pub Answered : List Test → Answer → Type 0 → Type 0 → Type 0
+Answered tests r Unchanged Work = Promised tests (λ k. stated r ≡ refusal k) Unchanged Work

@@ -1,6 +1,6 @@
 // What a word says, by its kind, and what a call answers: a result, or the ground that refuses it. The layout of words is in specs/Word.antt.
 ghost use mathlib.Core.Path.{_≡_};
-ghost use Rattle.words.specs.Ground.{numberOf};
+ghost use Rattle.words.specs.Ground.{numberOf, Tried};
 ghost use Rattle.words.specs.Read.{wordOf};
 
 // A word, read by its kind.
@@ -82,5 +82,20 @@ pub fn number(g: Ground) -> u32
         Ground::FrameLength => 12,
         Ground::CellValue => 13,
         Ground::ImageLength => 14,
+    }
+}
+
+// One test more: the answer so far where that is a refusal, else a refusal by the ground where its test holds. A chain of grounds begins with Done(0).
+pub fn tried(so_far: Answer, holds: bool, ground: Ground) -> Answer
+    ensures { λ r. ⌜ Tried «so_far» holds ground r ⌝ }
+{
+    match so_far {
+        Answer::Refused(first) => Answer::Refused(first),
+        Answer::Done(n) => {
+            if holds {
+                return Answer::Refused(ground);
+            }
+            Answer::Done(n)
+        }
     }
 }

@@ -4,9 +4,8 @@ use Prim.Native.Nat.{_+_}
 use lib.Dec.{T}
 use lib.ListN.{length}
 use Rattle.words.specs.Ground.{firstOf}
-use Rattle.words.proofs.Tested.{no-refusal}
+use Rattle.words.proofs.Tested.{no-refusal, refused-call}
 use Rattle.cleaning.specs.Cleaning.{operationTests}
-use Rattle.frames.proofs.Tested.{refused-call}
 use Rattle.frames.proofs.Sides.{sides}
 use Rattle.grids.specs.Frame.{free}
 use Rattle.planes.specs.Planes.{packFits}
@@ -46,7 +45,7 @@ returns : tie.Need-returns
 returns c =
     let t = c .before .before .before in
     let a = t .before .before .before .before .before .before .before .args in
-    refused-call (operationTests (a .plan .now) (a .w) (a .h) (a .frame .now) (a .first .now) (a .second .now)) (t .refused .result) _ (t .refused .ensures) (c .before .tested .given .1) (refl, refl)
+    refused-call (operationTests (a .plan .now) (a .w) (a .h) (a .frame .now) (a .first .now) (a .second .now)) (t .refused .result) _ (t .refused .ensures) (c .before .tested .given .1) refl (refl, refl)
 
 enum-told : tie.Need-enum-told
 enum-told c = search needs

@@ -3,10 +3,9 @@ use borrow.Author.Needs.{needs}
 use mathlib.Core.Path.{sym, _∙_, ap}
 use Rattle.words.specs.Ground.{refusal}
 use Rattle.words.proofs.Refusals.{rest-append}
-use Rattle.words.proofs.Tested.{no-refusal}
+use Rattle.words.proofs.Tested.{no-refusal, refused-more}
 use Rattle.shapes.specs.Plan.{planTests}
 use Rattle.grids.specs.Grid.{workTests}
-use Rattle.frames.proofs.Tested.{refused-first}
 use Rattle.cleaner.proofs.Accepted.{plan-clear}
 use Rattle.cleaner.proofs.refused.Statement.{statement}
 use Rattle.cleaner.proofs.refused.Tie as tie
@@ -21,7 +20,7 @@ returns : tie.Need-returns
 returns c =
     let t = c .before .before .before in
     let a = t .before .before .before .before .before .args in
-    refused-first (planTests (a .plan .now)) (t .plan-refusal .result) _ (t .plan-refusal .ensures) (c .before .tested .given .1)
+    refused-more (planTests (a .plan .now)) (t .plan-refusal .result) _ (t .plan-refusal .ensures) (c .before .tested .given .1)
     (workTests (a .w) (a .h) (a .frame .now) (a .first .now) (a .second .now))
 
 enum-told : tie.Need-enum-told

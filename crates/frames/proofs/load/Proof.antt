@@ -1,11 +1,10 @@
 -- A refused frame is refused; else it has at most 240 × 240 cells, and those occupied are counted.
 use borrow.Author.Needs.{needs}
-use mathlib.Core.Path.{_≡_, ap}
+use mathlib.Core.Path.{_≡_, refl, ap}
 use Rattle.words.specs.Ground.{firstOf, result}
 use Rattle.grids.specs.Frame.{frameTests}
 use Rattle.frames.proofs.Accepted.{countable}
-use Rattle.words.proofs.Tested.{no-refusal}
-use Rattle.frames.proofs.Tested.{refused-call}
+use Rattle.words.proofs.Tested.{no-refusal, refused-call}
 use Rattle.frames.proofs.load.Statement.{statement}
 use Rattle.frames.proofs.load.Tie as tie
 
@@ -26,7 +25,7 @@ returns : tie.Need-returns
 returns c =
     let t = c .before .before .before in
     let a = t .before .before .args in
-    refused-call (frameTests (a .w) (a .h) (a .frame .now)) (t .frame-refusal .result) _ (t .frame-refusal .ensures) (c .before .tested .given .1) tt
+    refused-call (frameTests (a .w) (a .h) (a .frame .now)) (t .frame-refusal .result) _ (t .frame-refusal .ensures) (c .before .tested .given .1) refl tt
 
 enum-told : tie.Need-enum-told
 enum-told c = search needs

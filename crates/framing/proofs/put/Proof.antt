@@ -2,10 +2,9 @@
 use borrow.Author.Needs.{needs}
 use native.Mathlib.Omega.{arith}
 use mathlib.Core.Path.{refl}
-use Rattle.words.proofs.Tested.{no-refusal}
+use Rattle.words.proofs.Tested.{no-refusal, refused-call}
 use Rattle.grids.specs.Grid.{putTests}
 use Rattle.frames.proofs.Sides.{sides}
-use Rattle.frames.proofs.Tested.{refused-call}
 use Rattle.framing.proofs.Fitting.{put-sides, put-done}
 use Rattle.framing.proofs.put.Statement.{statement}
 use Rattle.framing.proofs.put.Tie as tie
@@ -23,7 +22,7 @@ returns : tie.Need-returns
 returns c =
     let t = c .before .before .before in
     let a = t .before .before .before .before .args in
-    refused-call (putTests (a .w) (a .h) (a .frame .now) (a .image .now)) (t .put-refusal .result) _ (t .put-refusal .ensures) (c .before .tested .given .1) refl
+    refused-call (putTests (a .w) (a .h) (a .frame .now) (a .image .now)) (t .put-refusal .result) _ (t .put-refusal .ensures) (c .before .tested .given .1) refl refl
 
 enum-told : tie.Need-enum-told
 enum-told c = search needs

@@ -1,9 +1,8 @@
 -- A refusal is the answer; else what no ground refuses is ready, and the grid is written.
 use borrow.Author.Needs.{needs}
 use mathlib.Core.Path.{refl}
-use Rattle.words.proofs.Tested.{no-refusal}
+use Rattle.words.proofs.Tested.{no-refusal, refused-call}
 use Rattle.grids.specs.Grid.{stageTests}
-use Rattle.frames.proofs.Tested.{refused-call}
 use Rattle.framing.proofs.Fitting.{ready, stage-done}
 use Rattle.framing.proofs.stage.Statement.{statement}
 use Rattle.framing.proofs.stage.Tie as tie
@@ -21,7 +20,7 @@ returns : tie.Need-returns
 returns c =
     let t = c .before .before .before in
     let a = t .before .before .before .before .args in
-    refused-call (stageTests (a .word) (a .w) (a .h) (a .from .now) (a .to .now)) (t .stage-refusal .result) _ (t .stage-refusal .ensures) (c .before .tested .given .1) refl
+    refused-call (stageTests (a .word) (a .w) (a .h) (a .from .now) (a .to .now)) (t .stage-refusal .result) _ (t .stage-refusal .ensures) (c .before .tested .given .1) refl refl
 
 enum-told : tie.Need-enum-told
 enum-told c = search needs

@@ -1,148 +1,125 @@
--- Each ground in turn: those before it fail, so it is the first that holds.
+-- Ground 1; then each ground in turn, one test more. Ground 8 is tried where all before it fail.
 use borrow.Author.Needs.{needs}
-use mathlib.Core.Path.{_≡_, refl, sym, _∙_, ap}
+use mathlib.Core.Path.{_≡_, sym, _∙_, ap}
+use mathlib.Core.Bool.{false}
 use mathlib.Core.List.{List}
 use Prim.Native.Nat.{ℕ, _≤_}
-use lib.ListN.{length, drop}
-use Rattle.words.specs.Ground.{Test, firstOf, refusal}
-use Rattle.words.proofs.Refusals.{first-holds, first-fails}
+use lib.ListN.{length, take, drop}
+use Rattle.plane.proofs.Tests.{T-false}
+use Rattle.words.specs.Ground.{firstOf, stated, refusal}
+use Rattle.words.proofs.Refusals.{first-holds, first-fails, clear, tried-more}
+use Rattle.words.proofs.Tested.{no-refusal, refused-more}
 use Rattle.grounds.proofs.Lengths.{within}
-use Rattle.shapes.specs.Plan.{planTests}
+use Rattle.shapes.specs.Plan.{planTests, wrongPlanLength, wrongMasks, planMasks}
 use Rattle.plan_grounds.proofs.plan_refusal.Statement.{statement}
 use Rattle.plan_grounds.proofs.plan_refusal.Tie as tie
 
-abbrev ws : tie.Start → List ℕ
-ws st = st .args .ws .now
-
-abbrev tests : tie.Start → List Test
-tests st = planTests (ws st)
-
--- the tests before place k fail
-abbrev Passed : ℕ → tie.Start → Type 0
-Passed k st = firstOf (tests st) ≡ firstOf (drop k (tests st))
-
--- the start of the call, from behind each test
-abbrev from-1 : tie.Else1 → tie.Start
-from-1 c = c .before .before .before
-
-abbrev from-2 : tie.Else2 → tie.Start
-from-2 c = from-1 (c .before .before)
-
-abbrev from-3 : tie.Else3 → tie.Start
-from-3 c = from-2 (c .before .before)
-
-abbrev from-4 : tie.Else4 → tie.Start
-from-4 c = from-3 (c .before .before)
-
-abbrev from-5 : tie.Else5 → tie.Start
-from-5 c = from-4 (c .before .before)
-
-abbrev from-6 : tie.Else6 → tie.Start
-from-6 c = from-5 (c .before .before)
-
-abbrev from-7 : tie.Else7 → tie.Start
-from-7 c = from-6 (c .before .before)
+abbrev ws : tie.Else1 → List ℕ
+ws c = c .before .before .before .args .ws .now
 
 -- what ground 1 leaves
-within-1 : (c : tie.Else1) → (2 ≤ length (ws (from-1 c))) × (length (ws (from-1 c)) ≤ 32)
-within-1 c = within 2 32 (ws (from-1 c)) (sym (c .before .wrong-length .ensures) ∙ c .if1 .left)
+passed : (c : tie.Else1) → wrongPlanLength (ws c) ≡ false
+passed c = sym (c .before .wrong-length .ensures) ∙ c .if1 .left
 
-passed-1 : (c : tie.Else1) → Passed 1 (from-1 c)
-unfolding planTests
-passed-1 c = first-fails (tests (from-1 c)) 0 (sym (c .before .wrong-length .ensures) ∙ c .if1 .left)
+long : (c : tie.Else1) → (2 ≤ length (ws c)) × (length (ws c) ≤ 32)
+long c = within 2 32 (ws c) (passed c)
 
-passed-2 : (c : tie.Else2) → Passed 2 (from-2 c)
-unfolding planTests
-passed-2 c = passed-1 (c .before .before) ∙ first-fails (tests (from-2 c)) 1 (sym (c .before .wrong-kinds .ensures) ∙ c .if2 .left)
+-- behind each test, the place behind ground 1
+abbrev from-kinds : tie.After-tried → tie.Else1
+from-kinds c = c .before .before
 
-passed-3 : (c : tie.Else3) → Passed 3 (from-3 c)
-unfolding planTests
-passed-3 c = passed-2 (c .before .before) ∙ first-fails (tests (from-3 c)) 2 (sym (c .before .extra-bits .ensures) ∙ c .if3 .left)
+abbrev from-bits : tie.After-tried2 → tie.Else1
+from-bits c = from-kinds (c .before .before)
 
-passed-4 : (c : tie.Else4) → Passed 4 (from-4 c)
-unfolding planTests
-passed-4 c = passed-3 (c .before .before) ∙ first-fails (tests (from-4 c)) 3 (sym (c .before .wrong-count .ensures) ∙ c .if4 .left)
+abbrev from-count : tie.After-tried3 → tie.Else1
+from-count c = from-bits (c .before .before)
 
-passed-5 : (c : tie.Else5) → Passed 5 (from-5 c)
-unfolding planTests
-passed-5 c = passed-4 (c .before .before) ∙ first-fails (tests (from-5 c)) 4 (sym (c .before .wrong-place .ensures) ∙ c .if5 .left)
+abbrev from-masks : tie.After-tried5 → tie.Else1
+from-masks c = from-count (c .before .before .before .before)
 
-passed-6 : (c : tie.Else6) → Passed 6 (from-6 c)
+-- all grounds but 8
+first-six : (c : tie.After-tried5) → stated (c .tried5 .result) ≡ refusal (firstOf (take 6 (planTests (ws (from-masks c)))))
 unfolding planTests
-passed-6 c = passed-5 (c .before .before) ∙ first-fails (tests (from-6 c)) 5 (sym (c .before .wrong-masks .ensures) ∙ c .if6 .left)
-
-passed-7 : (c : tie.Else7) → Passed 7 (from-7 c)
-unfolding planTests
-passed-7 c = passed-6 (c .before .before) ∙ first-fails (tests (from-7 c)) 6 (sym (c .before .out-of-range .ensures) ∙ c .if7 .left)
+first-six c =
+    let place = c .before .before in
+    let count = place .before .before in
+    let bits = count .before .before in
+    let kinds = bits .before .before in
+    let ts = planTests (ws (from-masks c)) in
+    let one = sym (ap refusal (first-fails (take 1 ts) 0 (passed (from-masks c)))) in
+    let two = tried-more (kinds .tried .ensures) (take 1 ts) _ tt one (λ _. kinds .before .wrong-kinds .ensures) in
+    let three = tried-more (bits .tried2 .ensures) (take 2 ts) _ tt two (λ _. bits .before .extra-bits .ensures) in
+    let four = tried-more (count .tried3 .ensures) (take 3 ts) _ tt three (λ _. count .before .wrong-count .ensures) in
+    let five = tried-more (place .tried4 .ensures) (take 4 ts) _ tt four (λ _. place .before .wrong-place .ensures) in
+    tried-more (c .tried5 .ensures) (take 5 ts) _ tt five (λ _. c .before .wrong-masks .ensures)
 
 wrong-length-requires : tie.Need-wrong-length-requires
 wrong-length-requires c κs = search needs
 
 returns : tie.Need-returns
 unfolding planTests
-returns c =
-    let e = sym (c .before .wrong-length .ensures) ∙ c .if1 .taken in
-    sym (ap refusal (first-holds (tests (c .before .before .before)) 0 e))
+returns c = sym (ap refusal (first-holds (planTests (c .before .before .before .args .ws .now)) 0 (sym (c .before .wrong-length .ensures) ∙ c .if1 .taken)))
 
 wrong-kinds-requires : tie.Need-wrong-kinds-requires
-wrong-kinds-requires c κs = within-1 c .0
+wrong-kinds-requires c κs = long c .0
 
-returns-2 : tie.Need-returns-2
-unfolding planTests
-returns-2 c =
-    let e = sym (c .before .wrong-kinds .ensures) ∙ c .if2 .taken in
-    sym (ap refusal (passed-1 (c .before .before) ∙ first-holds (tests (from-1 (c .before .before))) 1 e))
+tried-requires : tie.Need-tried-requires
+tried-requires c κs = search needs
 
 extra-bits-requires : tie.Need-extra-bits-requires
-extra-bits-requires c κs = within-1 (c .before .before) .0
+extra-bits-requires c κs = long (from-kinds c) .0
 
-returns-3 : tie.Need-returns-3
-unfolding planTests
-returns-3 c =
-    let e = sym (c .before .extra-bits .ensures) ∙ c .if3 .taken in
-    sym (ap refusal (passed-2 (c .before .before) ∙ first-holds (tests (from-2 (c .before .before))) 2 e))
+tried-requires-2 : tie.Need-tried-requires-2
+tried-requires-2 c κs = search needs
 
 wrong-count-requires : tie.Need-wrong-count-requires
-wrong-count-requires c κs = within-1 (c .before .before .before .before) .0
+wrong-count-requires c κs = long (from-bits c) .0
 
-returns-4 : tie.Need-returns-4
-unfolding planTests
-returns-4 c =
-    let e = sym (c .before .wrong-count .ensures) ∙ c .if4 .taken in
-    sym (ap refusal (passed-3 (c .before .before) ∙ first-holds (tests (from-3 (c .before .before))) 3 e))
+tried-requires-3 : tie.Need-tried-requires-3
+tried-requires-3 c κs = search needs
 
 wrong-place-requires : tie.Need-wrong-place-requires
-wrong-place-requires c κs = within-1 (c .before .before .before .before .before .before) .0
+wrong-place-requires c κs = long (from-count c) .0
 
-returns-5 : tie.Need-returns-5
-unfolding planTests
-returns-5 c =
-    let e = sym (c .before .wrong-place .ensures) ∙ c .if5 .taken in
-    sym (ap refusal (passed-4 (c .before .before) ∙ first-holds (tests (from-4 (c .before .before))) 4 e))
+tried-requires-4 : tie.Need-tried-requires-4
+tried-requires-4 c κs = search needs
 
 wrong-masks-requires : tie.Need-wrong-masks-requires
 wrong-masks-requires c κs = search needs
 
-returns-6 : tie.Need-returns-6
+tried-requires-5 : tie.Need-tried-requires-5
+tried-requires-5 c κs = search needs
+
+enum-known-masks : tie.Need-enum-known-masks
+enum-known-masks c = search needs
+
+returns-2 : tie.Need-returns-2
 unfolding planTests
-returns-6 c =
-    let e = sym (c .before .wrong-masks .ensures) ∙ c .if6 .taken in
-    sym (ap refusal (passed-5 (c .before .before) ∙ first-holds (tests (from-5 (c .before .before))) 5 e))
+returns-2 c =
+    let t = c .before .before .before in
+    let ts = planTests (ws (from-masks t)) in
+    refused-more (take 6 ts) (t .tried5 .result) _ (first-six t) (c .before .masks .given .1) (drop 6 ts)
+
+enum-told : tie.Need-enum-told
+enum-told c = search needs
 
 out-of-range-requires : tie.Need-out-of-range-requires
+unfolding planTests
 out-of-range-requires c κs =
-    let l = within-1 (c .before .before .before .before .before .before .before .before .before .before) in
-    (l .0, l .1, sym (c .before .wrong-masks .ensures) ∙ c .if6 .left)
+    let t = c .before .before in
+    let l = long (from-masks t) in
+    let z = no-refusal (t .tried5 .result) _ (c .before .match .keys2) (first-six t) in
+    let p = clear (take 6 (planTests (ws (from-masks t)))) tt z in
+    (l .0, l .1, T-false (wrongMasks (planMasks (ws (from-masks t)))) (p .1 .1 .1 .1 .1 .0))
 
-returns-7 : tie.Need-returns-7
-unfolding planTests
-returns-7 c =
-    let e = sym (c .before .out-of-range .ensures) ∙ c .if7 .taken in
-    sym (ap refusal (passed-6 (c .before .before) ∙ first-holds (tests (from-6 (c .before .before))) 6 e))
+tried-requires-6 : tie.Need-tried-requires-6
+tried-requires-6 c κs = search needs
 
-returns-8 : tie.Need-returns-8
+returns-3 : tie.Need-returns-3
 unfolding planTests
-returns-8 c = sym (ap refusal (passed-7 c ∙ first-holds (tests (from-7 c)) 7 refl))
+returns-3 c =
+    let t = c .before .before .before .before in
+    tried-more (c .tried6 .ensures) (take 6 (planTests (ws (from-masks t)))) _ tt (first-six t) (λ _. c .before .out-of-range .ensures)
 
 pub plan-refusal-spec : {M : Type 1} → statement M
 plan-refusal-spec =
@@ -151,15 +128,18 @@ plan-refusal-spec =
     wrong-length-requires
     returns
     wrong-kinds-requires
-    returns-2
+    tried-requires
     extra-bits-requires
-    returns-3
+    tried-requires-2
     wrong-count-requires
-    returns-4
+    tried-requires-3
     wrong-place-requires
-    returns-5
+    tried-requires-4
     wrong-masks-requires
-    returns-6
+    tried-requires-5
+    enum-known-masks
+    returns-2
+    enum-told
     out-of-range-requires
-    returns-7
-    returns-8)
+    tried-requires-6
+    returns-3)

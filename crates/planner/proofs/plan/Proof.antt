@@ -6,8 +6,7 @@ use mathlib.Core.Path.{refl}
 use Rattle.rows.proofs.Known.{field16}
 use Rattle.shapes.specs.Shape.{shapePoints, shapeTests}
 use Rattle.shaping.proofs.Reading.{shape-read}
-use Rattle.words.proofs.Tested.{no-refusal}
-use Rattle.shaping.proofs.Tested.{refused-first}
+use Rattle.words.proofs.Tested.{no-refusal, refused-first}
 use Rattle.planner.proofs.Outputs.{too-short, long-enough}
 use Rattle.planner.proofs.Points.{fields, few, unplannable, written}
 use Rattle.planner.proofs.plan.Statement.{statement}
@@ -23,7 +22,7 @@ returns : tie.Need-returns
 returns c =
     let t = c .before .before .before in
     let st = t .before .before .before in
-    refused-first (shapeTests (st .args .ws .now)) _ (t .shape-refusal .result) _ (t .shape-refusal .ensures) (c .before .tested .given .1) refl
+    refused-first (shapeTests (st .args .ws .now)) (t .shape-refusal .result) _ (t .shape-refusal .ensures) (c .before .tested .given .1) _ refl refl
 
 enum-told : tie.Need-enum-told
 enum-told c = search needs
@@ -34,7 +33,7 @@ returns-2 c =
     let g = k .before .shape-refusal in
     let a = k .before .before .before .before .args in
     let z = no-refusal (g .result) _ (k .match .keys2) (g .ensures) in
-    too-short (a .ws .now) (a .out .now) z (c .if1 .taken) refl
+    too-short (a .ws .now) (a .out .now) z (c .if1 .taken) refl refl
 
 read-shape-requires : tie.Need-read-shape-requires
 read-shape-requires c κs = search needs
@@ -52,7 +51,7 @@ returns-3 c =
     let F = shape-read (a .ws .now) z (s .result) (s .ensures) in
     let W = field16 (s .result .rows) _ (s .ok .1 .1 .1 .1 .1 .0) in
     let p = c .before .before .shortest in
-    long-enough (a .ws .now) (a .out .now) z _ (c .before .before .before .before .before .if1 .left)
+    long-enough (a .ws .now) (a .out .now) z (c .before .before .before .before .before .if1 .left)
     (inl (unplannable (a .ws .now) (a .out .now) (s .result) W F _ _ _ (p .ensures) (not-true _ (c .if2 .taken)) _ refl))
 
 write-plan-requires : tie.Need-write-plan-requires
@@ -82,7 +81,7 @@ returns-4 c =
     let W = field16 (s .result .rows) _ (s .ok .1 .1 .1 .1 .1 .0) in
     let p = c .before .before .before .before .before .before .shortest in
     let w = c .before .before .write-plan in
-    long-enough (a .ws .now) (a .out .now) z _ (c .before .before .before .before .before .before .before .before .before .if1 .left)
+    long-enough (a .ws .now) (a .out .now) z (c .before .before .before .before .before .before .before .before .before .if1 .left)
     (inr (written (a .ws .now) (a .out .now) (s .result) W F _ _ _ (p .ensures) (not-false _ (c .before .before .before .before .if2 .left)) _ _ _ refl (w .ensures)))
 
 pub plan-spec : {M : Type 1} → statement M

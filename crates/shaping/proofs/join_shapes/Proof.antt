@@ -2,11 +2,10 @@
 use mathlib.Core.Path.{refl}
 use borrow.Author.Needs.{needs}
 use Rattle.shaping.proofs.join_shapes.Statement.{statement}
-use Rattle.words.proofs.Tested.{no-refusal}
-use Rattle.shaping.proofs.Tested.{refused-first}
+use Rattle.words.proofs.Tested.{no-refusal, refused-first}
 use Rattle.shaping.proofs.Reading.{shape-read}
 use Rattle.shaping.proofs.Calls.{made-returned, shapes-clear, each-accepted, list-made, append-points}
-use Rattle.words.proofs.Refusals.{answered-rest}
+use Rattle.words.proofs.Refusals.{promised-rest}
 use Rattle.elements.specs.Standing.{pointsOf}
 use Rattle.shapes.specs.Shape.{shapePoints, shapeTests}
 use Rattle.words.specs.Ground.{both}
@@ -23,7 +22,7 @@ returns : tie.Need-returns
 returns c =
     let t = c .before .before .before in
     let st = t .before .before .before .before in
-    refused-first (both (shapeTests (st .args .ws .now)) (shapeTests (st .args .vs .now))) _ (t .shapes-refusal .result) _ (t .shapes-refusal .ensures) (c .before .tested .given .1) refl
+    refused-first (both (shapeTests (st .args .ws .now)) (shapeTests (st .args .vs .now))) (t .shapes-refusal .result) _ (t .shapes-refusal .ensures) (c .before .tested .given .1) _ refl refl
 
 enum-told : tie.Need-enum-told
 enum-told c = search needs
@@ -68,7 +67,7 @@ returns-2 c =
     let S = shape-read ws (both-read .0) (s .result) (s .ensures) in
     let R = shape-read vs (both-read .1) (t .result) (t .ensures) in
     let e = append-points (pointsOf (s .result)) (pointsOf (t .result)) (shapePoints ws) (shapePoints vs) (S .points) (R .points) in
-    answered-rest (both (shapeTests ws) (shapeTests vs)) _ (w .result) (shapes-clear ws vs z)
+    promised-rest (both (shapeTests ws) (shapeTests vs)) _ (shapes-clear ws vs z)
     (list-made _ (S .sound, R .sound) _ (m .result) (m .ensures) (joinedPoints ws vs) (a .out .now) (w .result) _ e (w .ensures))
 
 pub join-shapes-spec : {M : Type 1} → statement M

@@ -5,11 +5,10 @@ use mathlib.Core.List.{map}
 use mathlib.Core.Path.{refl, subst}
 use borrow.Author.Needs.{needs}
 use Rattle.shaping.proofs.move_shape.Statement.{statement}
-use Rattle.words.proofs.Tested.{no-refusal}
-use Rattle.shaping.proofs.Tested.{refused-first}
+use Rattle.words.proofs.Tested.{no-refusal, refused-first}
 use Rattle.shaping.proofs.Reading.{shape-read}
 use Rattle.shaping.proofs.Calls.{made-returned, map-points, shape-clear, list-made}
-use Rattle.words.proofs.Refusals.{answered-rest}
+use Rattle.words.proofs.Refusals.{promised-rest}
 use Rattle.elements.specs.Standing.{Made, Sound, pointsOf}
 use Rattle.shapes.specs.Shape.{shapePoints, shapeTests}
 use Rattle.shapes.specs.Calls.{movedPoints}
@@ -26,7 +25,7 @@ returns : tie.Need-returns
 returns c =
     let t = c .before .before .before in
     let st = t .before .before .before in
-    refused-first (shapeTests (st .args .ws .now)) _ (t .shape-refusal .result) _ (t .shape-refusal .ensures) (c .before .tested .given .1) refl
+    refused-first (shapeTests (st .args .ws .now)) (t .shape-refusal .result) _ (t .shape-refusal .ensures) (c .before .tested .given .1) _ refl refl
 
 enum-told : tie.Need-enum-told
 enum-told c = search needs
@@ -63,7 +62,7 @@ returns-2 c =
     let M = subst (λ (d : Point). Made (Sound (s .result)) (map (λ p. p +ᵖ d) (pointsOf (s .result))) (m .result))
     (λ i. (toZ-ofZ w32 (a .dx) (st .fits .dx) i, toZ-ofZ w32 (a .dy) (st .fits .dy) i)) (m .ensures) in
     let e = map-points (λ p. p +ᵖ (a .dx, a .dy)) (pointsOf (s .result)) (shapePoints ws) (S .points) in
-    answered-rest (shapeTests ws) _ (w .result) (shape-clear ws z)
+    promised-rest (shapeTests ws) _ (shape-clear ws z)
     (list-made (Sound (s .result)) (S .sound) _ (m .result) M (movedPoints ws (a .dx, a .dy)) (a .out .now) (w .result) _ e (w .ensures))
 
 pub move-shape-spec : {M : Type 1} → statement M

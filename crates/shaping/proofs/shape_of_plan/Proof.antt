@@ -3,9 +3,8 @@ use mathlib.Core.Logic.{inl}
 use mathlib.Core.Path.{refl}
 use borrow.Author.Needs.{needs}
 use Rattle.shaping.proofs.shape_of_plan.Statement.{statement}
-use Rattle.words.proofs.Tested.{no-refusal}
-use Rattle.shaping.proofs.Tested.{refused-first}
-use Rattle.words.proofs.Refusals.{answered-rest}
+use Rattle.words.proofs.Tested.{no-refusal, refused-first}
+use Rattle.words.proofs.Refusals.{promised-rest}
 use Rattle.shaping.proofs.Calls.{plan-clear, list-stands}
 use Rattle.shapes.specs.Plan.{planTests, planPoints}
 use Rattle.shaping.proofs.shape_of_plan.Tie as tie
@@ -20,7 +19,7 @@ returns : tie.Need-returns
 returns c =
     let t = c .before .before .before in
     let st = t .before .before .before in
-    refused-first (planTests (st .args .ws .now)) _ (t .plan-refusal .result) _ (t .plan-refusal .ensures) (c .before .tested .given .1) refl
+    refused-first (planTests (st .args .ws .now)) (t .plan-refusal .result) _ (t .plan-refusal .ensures) (c .before .tested .given .1) _ refl refl
 
 enum-told : tie.Need-enum-told
 enum-told c = search needs
@@ -45,7 +44,7 @@ returns-2 c =
     let ws = a .ws .now in
     let z = no-refusal (t .result) _ (k .match .keys2) (t .ensures) in
     let w = c .before .before .write-shape in
-    answered-rest (planTests ws) _ (w .result) (plan-clear ws z)
+    promised-rest (planTests ws) _ (plan-clear ws z)
     (list-stands (s .result) (planPoints ws) (a .out .now) (w .result) _ (s .ensures .sound .fits) (s .ensures .points) (w .ensures))
 
 pub shape-of-plan-spec : {M : Type 1} → statement M

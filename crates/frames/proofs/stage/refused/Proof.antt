@@ -1,132 +1,111 @@
--- Each ground in turn: those before it fail, so it is the first that holds.
+-- Each ground in turn, one test more; the grid and the images are tested where the first four fail.
 use borrow.Author.Needs.{needs}
-use borrow.Author.Tests.{eq-eqb, ne-eqb, le-leb, lt-leb}
-use mathlib.Core.Path.{_≡_, refl, sym, _∙_, ap}
+use mathlib.Core.Path.{_≡_, refl, ap}
 use mathlib.Core.Bool.{false, not}
 use mathlib.Core.List.{List}
-use Prim.Native.Nat.{ℕ}
-use lib.ListN.{drop}
-use Rattle.words.specs.Ground.{Test, firstOf, refusal}
-use Rattle.words.proofs.Refusals.{first-holds, first-fails}
+use lib.ListN.{take, drop}
+use Rattle.plane.proofs.Tests.{T-false}
+use Rattle.words.specs.Ground.{Test, firstOf, stated, refusal}
+use Rattle.words.proofs.Refusals.{clear, testAt, tried-more}
+use Rattle.words.proofs.Tested.{no-refusal, refused-more}
 use Rattle.grids.specs.Frame.{badSize}
 use Rattle.grids.specs.Grid.{stageTests}
 use Rattle.frames.proofs.stage.refused.Statement.{statement}
 use Rattle.frames.proofs.stage.refused.Tie as tie
 
-abbrev tests : tie.Start → List Test
-tests st = let a = st .args in stageTests (a .word) (a .w) (a .h) (a .from .now) (a .to .now)
+abbrev start : tie.After-tried4 → tie.Start
+start c = c .before .before .before .before .before .before .before .before
 
--- the tests before place k fail
-abbrev Passed : ℕ → tie.Start → Type 0
-Passed k st = firstOf (tests st) ≡ firstOf (drop k (tests st))
+abbrev tests : tie.After-tried4 → List Test
+tests c = let a = start c .args in stageTests (a .word) (a .w) (a .h) (a .from .now) (a .to .now)
 
--- the start of the call, from behind each test
-abbrev from-1 : tie.Else1 → tie.Start
-from-1 c = c .before .before .before
-
-abbrev from-2 : tie.Else2 → tie.Start
-from-2 c = from-1 (c .before)
-
-abbrev from-3 : tie.Else3 → tie.Start
-from-3 c = from-2 (c .before .before)
-
-abbrev from-4 : tie.Else4 → tie.Start
-from-4 c = from-3 (c .before .before)
-
-abbrev from-5 : tie.Else5 → tie.Start
-from-5 c = from-4 (c .before .before)
-
-abbrev from-6 : tie.Else6 → tie.Start
-from-6 c = from-5 (c .before .before)
-
-passed-1 : (c : tie.Else1) → Passed 1 (from-1 c)
+-- the word and the sides
+first-four : (c : tie.After-tried4) → stated (c .tried4 .result) ≡ refusal (firstOf (take 4 (tests c)))
 unfolding stageTests
-passed-1 c = first-fails (tests (from-1 c)) 0 (ap not (eq-eqb _ _ (c .if1 .left)))
+first-four c =
+    let mask = c .before .before in
+    let bit = mask .before .before in
+    let kind = bit .before in
+    let ts = tests c in
+    let one = tried-more (kind .tried .ensures) (take 0 ts) _ tt refl (λ _. refl) in
+    let two = tried-more (bit .tried2 .ensures) (take 1 ts) _ tt one (λ _. refl) in
+    let three = tried-more (mask .tried3 .ensures) (take 2 ts) _ tt two (λ _. ap not (mask .before .is-stage .ensures)) in
+    tried-more (c .tried4 .ensures) (take 3 ts) _ tt three (λ _. c .before .bad-size .ensures)
 
-passed-2 : (c : tie.Else2) → Passed 2 (from-2 c)
+-- what ground 11 leaves
+sized : (c : tie.After-enum-told) → let a = start (c .before .before) .args in badSize (a .w) (a .h) ≡ false
 unfolding stageTests
-passed-2 c = passed-1 (c .before) ∙ first-fails (tests (from-2 c)) 1 (lt-leb _ _ (c .if2 .left))
+sized c =
+    let t = c .before .before in
+    let z = no-refusal (t .tried4 .result) _ (c .before .match .keys2) (first-four t) in
+    T-false _ (clear (take 4 (tests t)) tt z .1 .1 .1 .0)
 
-passed-3 : (c : tie.Else3) → Passed 3 (from-3 c)
-unfolding stageTests
-passed-3 c = passed-2 (c .before .before) ∙ first-fails (tests (from-3 c)) 2 (ap not (sym (c .before .is-stage .ensures)) ∙ c .if3 .left)
+tried-requires : tie.Need-tried-requires
+tried-requires c κs = search needs
 
-passed-4 : (c : tie.Else4) → Passed 4 (from-4 c)
-unfolding stageTests
-passed-4 c = passed-3 (c .before .before) ∙ first-fails (tests (from-4 c)) 3 (sym (c .before .bad-size .ensures) ∙ c .if4 .left)
-
-passed-5 : (c : tie.Else5) → Passed 5 (from-5 c)
-unfolding stageTests
-passed-5 c = passed-4 (c .before .before) ∙ first-fails (tests (from-5 c)) 4 (sym (c .before .bad-grid .ensures) ∙ c .if5 .left)
-
-passed-6 : (c : tie.Else6) → Passed 6 (from-6 c)
-unfolding stageTests
-passed-6 c = passed-5 (c .before .before) ∙ first-fails (tests (from-6 c)) 5 (sym (c .before .short-images .ensures) ∙ c .if6 .left)
-
-returns : tie.Need-returns
-unfolding stageTests
-returns c = sym (ap refusal (first-holds (tests (c .before .before .before)) 0 (ap not (ne-eqb _ _ (c .if1 .taken)))))
-
-returns-2 : tie.Need-returns-2
-unfolding stageTests
-returns-2 c = sym (ap refusal (passed-1 (c .before) ∙ first-holds (tests (from-1 (c .before))) 1 (le-leb _ _ (c .if2 .taken))))
+tried-requires-2 : tie.Need-tried-requires-2
+tried-requires-2 c κs = search needs
 
 is-stage-requires : tie.Need-is-stage-requires
 is-stage-requires c κs = search needs
 
-returns-3 : tie.Need-returns-3
-unfolding stageTests
-returns-3 c =
-    let e = ap not (sym (c .before .is-stage .ensures)) ∙ c .if3 .taken in
-    sym (ap refusal (passed-2 (c .before .before) ∙ first-holds (tests (from-2 (c .before .before))) 2 e))
+tried-requires-3 : tie.Need-tried-requires-3
+tried-requires-3 c κs = search needs
 
 bad-size-requires : tie.Need-bad-size-requires
 bad-size-requires c κs = search needs
 
-returns-4 : tie.Need-returns-4
-unfolding stageTests
-returns-4 c =
-    let e = sym (c .before .bad-size .ensures) ∙ c .if4 .taken in
-    sym (ap refusal (passed-3 (c .before .before) ∙ first-holds (tests (from-3 (c .before .before))) 3 e))
+tried-requires-4 : tie.Need-tried-requires-4
+tried-requires-4 c κs = search needs
 
--- what ground 11 leaves
-sized : (c : tie.Else4) → badSize (from-4 c .args .w) (from-4 c .args .h) ≡ false
-sized c = sym (c .before .bad-size .ensures) ∙ c .if4 .left
+enum-known-size : tie.Need-enum-known-size
+enum-known-size c = search needs
+
+returns : tie.Need-returns
+unfolding stageTests
+returns c =
+    let t = c .before .before .before in
+    refused-more (take 4 (tests t)) (t .tried4 .result) _ (first-four t) (c .before .size .given .1) (drop 4 (tests t))
+
+enum-told : tie.Need-enum-told
+enum-told c = search needs
 
 bad-grid-requires : tie.Need-bad-grid-requires
 bad-grid-requires c κs = sized c
 
-returns-5 : tie.Need-returns-5
-unfolding stageTests
-returns-5 c =
-    let e = sym (c .before .bad-grid .ensures) ∙ c .if5 .taken in
-    sym (ap refusal (passed-4 (c .before .before) ∙ first-holds (tests (from-4 (c .before .before))) 4 e))
+tried-requires-5 : tie.Need-tried-requires-5
+tried-requires-5 c κs = search needs
 
 short-images-requires : tie.Need-short-images-requires
-short-images-requires c κs = sized (c .before .before)
+short-images-requires c κs = search needs
 
-returns-6 : tie.Need-returns-6
-unfolding stageTests
-returns-6 c =
-    let e = sym (c .before .short-images .ensures) ∙ c .if6 .taken in
-    sym (ap refusal (passed-5 (c .before .before) ∙ first-holds (tests (from-5 (c .before .before))) 5 e))
+tried-requires-6 : tie.Need-tried-requires-6
+tried-requires-6 c κs = search needs
 
-returns-7 : tie.Need-returns-7
+returns-2 : tie.Need-returns-2
 unfolding stageTests
-returns-7 c = sym (ap refusal (passed-6 c ∙ first-holds (tests (from-6 c)) 6 refl))
+returns-2 c =
+    let cell = c .before .before in
+    let told = cell .before .before in
+    let ts = tests (told .before .before) in
+    let five = tried-more (cell .tried5 .ensures) (take 4 ts) _ tt (first-four (told .before .before)) (λ _. cell .before .bad-grid .ensures) in
+    tried-more (c .tried6 .ensures) (take 5 ts) (testAt ts 5 .1) tt five (λ _. c .before .short-images .ensures (sized told))
 
 pub refused-spec : {M : Type 1} → statement M
 refused-spec =
     tie.close
     (tie.spec
-    returns
-    returns-2
+    tried-requires
+    tried-requires-2
     is-stage-requires
-    returns-3
+    tried-requires-3
     bad-size-requires
-    returns-4
+    tried-requires-4
+    enum-known-size
+    returns
+    enum-told
     bad-grid-requires
-    returns-5
+    tried-requires-5
     short-images-requires
-    returns-6
-    returns-7)
+    tried-requires-6
+    returns-2)

@@ -1,98 +1,59 @@
--- Each ground in turn: those before it fail, so it is the first that holds.
+-- Ground 1; then each ground in turn, one test more.
 use borrow.Author.Needs.{needs}
-use mathlib.Core.Path.{_≡_, refl, sym, _∙_, ap}
-use mathlib.Core.List.{List}
-use Prim.Native.Nat.{ℕ, _≤_}
-use lib.ListN.{length, drop}
-use Rattle.words.specs.Ground.{Test, firstOf, refusal}
-use Rattle.words.proofs.Refusals.{first-holds, first-fails}
+use mathlib.Core.Path.{_≡_, sym, _∙_, ap}
+use mathlib.Core.Bool.{false}
+use Prim.Native.Nat.{_≤_}
+use lib.ListN.{length, take}
+use Rattle.words.specs.Ground.{refusal}
+use Rattle.words.proofs.Refusals.{first-holds, first-fails, tried-more}
 use Rattle.grounds.proofs.Lengths.{within}
-use Rattle.shapes.specs.Shape.{shapeTests}
+use Rattle.shapes.specs.Shape.{shapeTests, wrongShapeLength}
 use Rattle.grounds.proofs.shape.refused.Statement.{statement}
 use Rattle.grounds.proofs.shape.refused.Tie as tie
 
-abbrev ws : tie.Start → List ℕ
-ws st = st .args .ws .now
-
-abbrev tests : tie.Start → List Test
-tests st = shapeTests (ws st)
-
--- the tests before place k fail
-abbrev Passed : ℕ → tie.Start → Type 0
-Passed k st = firstOf (tests st) ≡ firstOf (drop k (tests st))
-
--- the start of the call, from behind each test
-abbrev from-1 : tie.Else1 → tie.Start
-from-1 c = c .before .before .before
-
-abbrev from-2 : tie.Else2 → tie.Start
-from-2 c = from-1 (c .before .before)
-
-abbrev from-3 : tie.Else3 → tie.Start
-from-3 c = from-2 (c .before .before)
-
-abbrev from-4 : tie.Else4 → tie.Start
-from-4 c = from-3 (c .before .before)
-
 -- what ground 1 leaves
-within-1 : (c : tie.Else1) → (2 ≤ length (ws (from-1 c))) × (length (ws (from-1 c)) ≤ 17)
-within-1 c = within 2 17 (ws (from-1 c)) (sym (c .before .wrong-length .ensures) ∙ c .if1 .left)
+passed : (c : tie.Else1) → wrongShapeLength (c .before .before .before .args .ws .now) ≡ false
+passed c = sym (c .before .wrong-length .ensures) ∙ c .if1 .left
 
-passed-1 : (c : tie.Else1) → Passed 1 (from-1 c)
-unfolding shapeTests
-passed-1 c = first-fails (tests (from-1 c)) 0 (sym (c .before .wrong-length .ensures) ∙ c .if1 .left)
-
-passed-2 : (c : tie.Else2) → Passed 2 (from-2 c)
-unfolding shapeTests
-passed-2 c = passed-1 (c .before .before) ∙ first-fails (tests (from-2 c)) 1 (sym (c .before .wrong-kinds .ensures) ∙ c .if2 .left)
-
-passed-3 : (c : tie.Else3) → Passed 3 (from-3 c)
-unfolding shapeTests
-passed-3 c = passed-2 (c .before .before) ∙ first-fails (tests (from-3 c)) 2 (sym (c .before .extra-bits .ensures) ∙ c .if3 .left)
-
-passed-4 : (c : tie.Else4) → Passed 4 (from-4 c)
-unfolding shapeTests
-passed-4 c = passed-3 (c .before .before) ∙ first-fails (tests (from-4 c)) 3 (sym (c .before .wrong-rows .ensures) ∙ c .if4 .left)
+long : (c : tie.Else1) → 2 ≤ length (c .before .before .before .args .ws .now)
+long c = within 2 17 (c .before .before .before .args .ws .now) (passed c) .0
 
 wrong-length-requires : tie.Need-wrong-length-requires
 wrong-length-requires c κs = search needs
 
 returns : tie.Need-returns
 unfolding shapeTests
-returns c =
-    let e = sym (c .before .wrong-length .ensures) ∙ c .if1 .taken in
-    sym (ap refusal (first-holds (tests (c .before .before .before)) 0 e))
+returns c = sym (ap refusal (first-holds (shapeTests (c .before .before .before .args .ws .now)) 0 (sym (c .before .wrong-length .ensures) ∙ c .if1 .taken)))
 
 wrong-kinds-requires : tie.Need-wrong-kinds-requires
-wrong-kinds-requires c κs = within-1 c .0
+wrong-kinds-requires c κs = long c
 
-returns-2 : tie.Need-returns-2
-unfolding shapeTests
-returns-2 c =
-    let e = sym (c .before .wrong-kinds .ensures) ∙ c .if2 .taken in
-    sym (ap refusal (passed-1 (c .before .before) ∙ first-holds (tests (from-1 (c .before .before))) 1 e))
+tried-requires : tie.Need-tried-requires
+tried-requires c κs = search needs
 
 extra-bits-requires : tie.Need-extra-bits-requires
-extra-bits-requires c κs = within-1 (c .before .before) .0
+extra-bits-requires c κs = long (c .before .before)
 
-returns-3 : tie.Need-returns-3
-unfolding shapeTests
-returns-3 c =
-    let e = sym (c .before .extra-bits .ensures) ∙ c .if3 .taken in
-    sym (ap refusal (passed-2 (c .before .before) ∙ first-holds (tests (from-2 (c .before .before))) 2 e))
+tried-requires-2 : tie.Need-tried-requires-2
+tried-requires-2 c κs = search needs
 
 wrong-rows-requires : tie.Need-wrong-rows-requires
 wrong-rows-requires c κs = search needs
 
-returns-4 : tie.Need-returns-4
-unfolding shapeTests
-returns-4 c =
-    let e = sym (c .before .wrong-rows .ensures) ∙ c .if4 .taken in
-    sym (ap refusal (passed-3 (c .before .before) ∙ first-holds (tests (from-3 (c .before .before))) 3 e))
+tried-requires-3 : tie.Need-tried-requires-3
+tried-requires-3 c κs = search needs
 
-returns-5 : tie.Need-returns-5
+returns-2 : tie.Need-returns-2
 unfolding shapeTests
-returns-5 c = sym (ap refusal (passed-4 c ∙ first-holds (tests (from-4 c)) 4 refl))
+returns-2 c =
+    let bits = c .before .before in
+    let kinds = bits .before .before in
+    let start = kinds .before .before in
+    let tests = shapeTests (start .before .before .before .args .ws .now) in
+    let one = sym (ap refusal (first-fails (take 1 tests) 0 (passed start))) in
+    let two = tried-more (kinds .tried .ensures) (take 1 tests) _ tt one (λ _. kinds .before .wrong-kinds .ensures) in
+    let three = tried-more (bits .tried2 .ensures) (take 2 tests) _ tt two (λ _. bits .before .extra-bits .ensures) in
+    tried-more (c .tried3 .ensures) (take 3 tests) _ tt three (λ _. c .before .wrong-rows .ensures)
 
 pub refused-spec : {M : Type 1} → statement M
 refused-spec =
@@ -101,9 +62,9 @@ refused-spec =
     wrong-length-requires
     returns
     wrong-kinds-requires
-    returns-2
+    tried-requires
     extra-bits-requires
-    returns-3
+    tried-requires-2
     wrong-rows-requires
-    returns-4
-    returns-5)
+    tried-requires-3
+    returns-2)
