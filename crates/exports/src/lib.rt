@@ -66,7 +66,7 @@ pub extern "C" fn musq_sum(a: &[u32], b: &[u32], out: &mut [u32]) -> i64
 pub extern "C" fn musq_load(w: usize, h: usize, frame: &[u8]) -> i64
     ensures { λ r. ⌜ Stands r (λ a. LoadCounted w h (now (frame .entry)) a) ⌝ }
 {
-    signed(frames::load(w, h, frame))
+    signed(framing::load(w, h, frame))
 }
 
 // Putting a frame into a grid.

@@ -30,5 +30,5 @@ module _ (w h : ℕ) (f : List ℕ) (z : firstOf (frameTests w h f) ≡ 0) where
   unfolding frameTests
   frame-length = eqb→eq (length f) (w * h) (un-not (eqb (length f) (w * h)) (frame-clear .1 .0))
 
-  pub countable : length f ≤ 57600
+  pub countable : length f ≤ 0x7fffffff
   countable = omega (arith, frame-length, few-cells w h size-passes)

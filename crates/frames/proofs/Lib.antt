@@ -1,3 +1,2 @@
 pub mod Sides
-pub mod Loops
 pub mod Accepted

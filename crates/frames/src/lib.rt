@@ -1,6 +1,5 @@
 // What refuses a frame, a work image or a single stage: the first of grounds 2, 3, 7 and 11 to 14 of document 01 that holds; Done(0) where none does.
-// And the load of a frame. `sizes` has the tests of sides and lengths, `cells` the loops over cells, `stage` the tests of a single stage.
-mod cells;
+// `sizes` has the tests of sides and lengths, `stage` those of a single stage; the cells are looked at by `cell_steps`.
 mod sizes;
 mod stage;
 
@@ -9,7 +8,7 @@ use words::Ground;
 ghost use mathlib.Core.Path.{_≡_};
 ghost use mathlib.Core.Bool.{false};
 ghost use Rattle.words.specs.Ground.{stated, refusal, firstOf};
-ghost use Rattle.grids.specs.Frame.{badSize, wrongLength, badCell, frameTests, LoadCounted};
+ghost use Rattle.grids.specs.Frame.{badSize, wrongLength, badCell, frameTests};
 ghost use Rattle.grids.specs.Grid.{putTests, stageTests, workTests};
 
 // Ground 11: whether W or H isn't 1 to 240.
@@ -31,7 +30,7 @@ fn bad_cells(w: usize, h: usize, frame: &[u8]) -> bool
         return false;
     }
     let n = w * h;
-    cells::bad_among(frame, n)
+    cell_steps::bad_among(frame, n)
 }
 
 // What refuses a frame: the first of grounds 11, 12 and 13 that holds.
@@ -68,16 +67,4 @@ pub fn stage_refusal(word: u32, w: usize, h: usize, from: &[u8], to: &[u8]) -> A
     ensures { λ r. ⌜ stated r ≡ refusal (firstOf (stageTests word w h (now (from .entry)) (now (to .entry)))) ⌝ }
 {
     stage::refused(word, w, h, from, to)
-}
-
-// The load: the number of occupied cells in a frame.
-pub fn load(w: usize, h: usize, frame: &[u8]) -> Answer
-    ensures { λ r. ⌜ LoadCounted w h (now (frame .entry)) r ⌝ }
-{
-    let tested = frame_refusal(w, h, frame);
-    if let Answer::Refused(ground) = tested {
-        return Answer::Refused(ground);
-    }
-    let n = cells::occupied(frame);
-    Answer::Done(n)
 }

@@ -1,5 +1,4 @@
 // The grounds of a single stage: its word, the sides, the grid read as far as its image goes, and both images.
-use super::cells;
 use super::sizes;
 use words::Answer;
 use words::Ground;
@@ -16,7 +15,7 @@ fn bad_grid(w: usize, h: usize, image: &[u8]) -> bool
     ensures { λ r. ⌜ r ≡ badCell (take (gridSize w h) (now (image .entry))) ⌝ }
 {
     let n = sizes::grid_size(w, h);
-    cells::bad_among(image, n)
+    cell_steps::bad_among(image, n)
 }
 
 // The first ground that holds. The grid is looked at where the word and the sides pass theirs.

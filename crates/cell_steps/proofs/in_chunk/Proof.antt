@@ -5,10 +5,10 @@ use mathlib.Core.Path.{_≡_}
 use Prim.Native.Nat.{_+_, _-_, _≤_}
 use native.Mathlib.Omega.{arith}
 use lib.ListN.{length, drop}
-use Rattle.frames.specs.Leaves.{countsOf}
-use Rattle.frames.proofs.Loops.{counts-one, counts-none}
-use Rattle.frames.proofs.cells.in_chunk.Statement.{statement}
-use Rattle.frames.proofs.cells.in_chunk.Tie as tie
+use Rattle.cell_steps.specs.Leaves.{countsOf}
+use Rattle.cell_steps.proofs.Loops.{counts-one, counts-none}
+use Rattle.cell_steps.proofs.in_chunk.Statement.{statement}
+use Rattle.cell_steps.proofs.in_chunk.Tie as tie
 
 abbrev Inv-loop : tie.InvT-loop
 Inv-loop cells n₀ j₀ n j = (n ≤ j) × (n + countsOf (drop j cells) ≡ countsOf cells)

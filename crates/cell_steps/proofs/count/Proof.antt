@@ -3,8 +3,8 @@ use native.Mathlib.Omega.{arith}
 use mathlib.Core.Path.{sym, ap}
 use mathlib.Core.Bool.{cond}
 use borrow.Author.Tests.{eq-eqb, ne-eqb}
-use Rattle.frames.proofs.cells.count.Statement.{statement}
-use Rattle.frames.proofs.cells.count.Tie as tie
+use Rattle.cell_steps.proofs.count.Statement.{statement}
+use Rattle.cell_steps.proofs.count.Tie as tie
 
 returns : tie.Need-returns
 returns c = (sym (ap (λ b. cond b 1 0) (eq-eqb (c .before .args .cell) 1 (c .if1 .taken))), omega arith)

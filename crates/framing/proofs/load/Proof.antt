@@ -3,10 +3,10 @@ use borrow.Author.Needs.{needs}
 use mathlib.Core.Path.{_≡_, refl, ap}
 use Rattle.words.specs.Ground.{firstOf, result}
 use Rattle.grids.specs.Frame.{frameTests}
 use Rattle.frames.proofs.Accepted.{countable}
 use Rattle.words.proofs.Tested.{no-refusal, refused-call}
-use Rattle.frames.proofs.load.Statement.{statement}
-use Rattle.frames.proofs.load.Tie as tie
+use Rattle.framing.proofs.load.Statement.{statement}
+use Rattle.framing.proofs.load.Tie as tie
 
 -- the start of the call, from behind the frame's tests
 abbrev from-told : tie.After-enum-told → tie.Start
@@ -31,10 +31,10 @@ enum-told : tie.Need-enum-told
 enum-told c = search needs
 
 occupied-requires : tie.Need-occupied-requires
-occupied-requires c κs = let a = from-told c .args in countable (a .w) (a .h) (a .frame .now) (accepted c)
+occupied-requires c κs = search needs
 
 returns-2 : tie.Need-returns-2
-returns-2 c = record { refused = λ n. absurd (n (accepted (c .before))); done = λ _. ap result (c .occupied .ensures) }
+returns-2 c = record { refused = λ n. absurd (n (accepted (c .before))); done = λ _. let a = from-told (c .before) .args in ap result (c .occupied .ensures .few (countable (a .w) (a .h) (a .frame .now) (accepted (c .before)))) }
 
 pub load-spec : {M : Type 1} → statement M
 load-spec =

@@ -5,9 +5,9 @@ use Prim.Native.Nat.{_-_, min}
 use native.Mathlib.Nat.{sub-zero}
 use lib.ListN.{length, take}
 use Rattle.grids.specs.Frame.{badCell}
-use Rattle.frames.proofs.Loops.{take-as-far}
-use Rattle.frames.proofs.cells.bad_among.Statement.{statement}
-use Rattle.frames.proofs.cells.bad_among.Tie as tie
+use Rattle.cell_steps.proofs.Loops.{take-as-far}
+use Rattle.cell_steps.proofs.bad_among.Statement.{statement}
+use Rattle.cell_steps.proofs.bad_among.Tie as tie
 
 lesser-requires : tie.Need-lesser-requires
 lesser-requires c κs = search needs

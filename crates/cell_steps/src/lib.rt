@@ -1,9 +1,9 @@
-// Ground 13 and the load: loops over cells that always run to the end, so that they are done many cells at a time.
+// Loops over the cells of frames and grids, for ground 13 and the load. They always run to the end, so that many cells are done at a time.
 ghost use mathlib.Core.Path.{_≡_};
 ghost use Prim.Native.Nat.{_≤_, min, max};
 ghost use lib.ListN.{length, take};
 ghost use Rattle.grids.specs.Frame.{badCell, load};
-ghost use Rattle.frames.specs.Leaves.{greatestOf, countOf, countsOf};
+ghost use Rattle.cell_steps.specs.Leaves.{greatestOf, countOf, countsOf, Counted};
 
 // The greater of two cells.
 fn greater(a: u8, b: u8) -> u8
@@ -40,7 +40,7 @@ fn lesser(a: usize, b: usize) -> usize
 }
 
 // Ground 13 over the first n cells, or as many as there are.
-pub(crate) fn bad_among(cells: &[u8], n: usize) -> bool
+pub fn bad_among(cells: &[u8], n: usize) -> bool
     ensures { λ r. ⌜ r ≡ badCell (take n (now (cells .entry))) ⌝ }
 {
     let m = lesser(n, cells.len());
@@ -75,8 +75,8 @@ fn in_chunk(cells: &[u8]) -> u8
 const CHUNK: usize = 224;
 
 // The number of occupied cells, chunk by chunk; the last chunk has what is left, perhaps nothing.
-pub(crate) fn occupied(cells: &[u8]) -> u32
-    requires { ⌜ length (now cells) ≤ 57600 ⌝ }
+fn in_chunks(cells: &[u8]) -> u32
+    requires { ⌜ length (now cells) ≤ 0x7fffffff ⌝ }
     ensures { λ r. ⌜ r ≡ load (now (cells .entry)) ⌝ }
 {
     let mut n: u32 = 0;
@@ -86,4 +86,14 @@ pub(crate) fn occupied(cells: &[u8]) -> u32
         k += CHUNK;
     }
     n + in_chunk(&cells[k..cells.len()]) as u32
+}
+
+// The number of occupied cells; 0 where there are more than 2,147,483,647 cells.
+pub fn occupied(cells: &[u8]) -> u32
+    ensures { λ r. ⌜ Counted (now (cells .entry)) r ⌝ }
+{
+    if 0x7fff_ffff < cells.len() {
+        return 0;
+    }
+    in_chunks(cells)
 }

@@ -12,7 +12,7 @@ use lib.ListN.{length, getD, take, drop, drop-of-length-le}
 use lib.Seq.{drop-cons, drop-drop, take-all, take-length}
 use Rattle.plane.specs.Lists.{keep}
 use Rattle.grids.specs.Frame.{full, highest, badCell, load}
-use Rattle.frames.specs.Leaves.{greatestOf, countOf, countsOf}
+use Rattle.cell_steps.specs.Leaves.{greatestOf, countOf, countsOf}
 
 -- ---- the greatest cell
 

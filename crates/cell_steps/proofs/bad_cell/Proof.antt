@@ -3,9 +3,9 @@ use borrow.Author.Needs.{needs}
 use mathlib.Core.Path.{_∙_, ap}
 use lib.Dec.{ltb}
 use Rattle.grids.specs.Frame.{highest}
-use Rattle.frames.proofs.Loops.{greatest-bad}
-use Rattle.frames.proofs.cells.bad_cell.Statement.{statement}
-use Rattle.frames.proofs.cells.bad_cell.Tie as tie
+use Rattle.cell_steps.proofs.Loops.{greatest-bad}
+use Rattle.cell_steps.proofs.bad_cell.Statement.{statement}
+use Rattle.cell_steps.proofs.bad_cell.Tie as tie
 
 greatest-requires : tie.Need-greatest-requires
 greatest-requires c κs = search needs

@@ -5,10 +5,10 @@ use mathlib.Core.Path.{_≡_, _∙_}
 use Prim.Native.Nat.{_+_, _-_, _≤_}
 use native.Mathlib.Omega.{arith}
 use lib.ListN.{length, drop, length-take}
-use Rattle.frames.specs.Leaves.{countsOf}
-use Rattle.frames.proofs.Loops.{counts-part, counts-most, counts-none, counts-load}
-use Rattle.frames.proofs.cells.occupied.Statement.{statement}
-use Rattle.frames.proofs.cells.occupied.Tie as tie
+use Rattle.cell_steps.specs.Leaves.{countsOf}
+use Rattle.cell_steps.proofs.Loops.{counts-part, counts-most, counts-none, counts-load}
+use Rattle.cell_steps.proofs.in_chunks.Statement.{statement}
+use Rattle.cell_steps.proofs.in_chunks.Tie as tie
 
 abbrev Inv-loop : tie.InvT-loop
 Inv-loop cells n₀ k₀ n k = (k ≤ length cells) × (n + countsOf (drop k cells) ≡ countsOf cells)
@@ -88,8 +88,8 @@ returns c =
     let e : h .n + c .in-chunk2 .result ≡ countsOf cells = omega (arith, c .in-chunk2 .ensures) in
     e ∙ counts-load cells
 
-pub occupied-spec : {M : Type 1} → statement M
-occupied-spec =
+pub in-chunks-spec : {M : Type 1} → statement M
+in-chunks-spec =
     tie.close
     (tie.spec
     Inv-loop

@@ -4,10 +4,10 @@ use mathlib.Core.Path.{_≡_, sym, _∙_, ap}
 use Prim.Native.Nat.{_+_, _-_, max}
 use native.Mathlib.Omega.{arith}
 use lib.ListN.{length, drop}
-use Rattle.frames.specs.Leaves.{greatestOf}
-use Rattle.frames.proofs.Loops.{greatest-one, greatest-none}
-use Rattle.frames.proofs.cells.greatest.Statement.{statement}
-use Rattle.frames.proofs.cells.greatest.Tie as tie
+use Rattle.cell_steps.specs.Leaves.{greatestOf}
+use Rattle.cell_steps.proofs.Loops.{greatest-one, greatest-none}
+use Rattle.cell_steps.proofs.greatest.Statement.{statement}
+use Rattle.cell_steps.proofs.greatest.Tie as tie
 
 abbrev Inv-loop : tie.InvT-loop
 Inv-loop cells v₀ i₀ v i = max v (greatestOf (drop i cells)) ≡ greatestOf cells
