@@ -24,11 +24,7 @@ module _ (plan : List ℕ) (z : firstOf (planTests plan) ≡ 0) where
   unfolding planTests
   plan-length = within 2 32 plan (T-false (wrongPlanLength plan) (plan-clear .0))
 
-  -- the stages of one pass
-  pub most : {n : ℕ} → n ≡ 0 + length (planMasks plan) → n ≤ 30
-  most e = omega (arith, length-map (drop 2 plan) stageMask, length-drop 2 plan, plan-length .1)
-
-  -- and of an operation
+  -- the stages of an operation
   pub few-stages : (op : Operation) {n : ℕ} → n ≡ stagesRun op (length (planMasks plan)) → n ≤ 60
   few-stages op {n} e = go op e
     where

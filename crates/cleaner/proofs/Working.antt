@@ -28,11 +28,12 @@ use Rattle.cleaning.specs.Cleaning.{stagesRun, resultImage, part, operationTest
 use Rattle.cleaning.proofs.Kept.{turn-length}
 use Rattle.cleaning.proofs.Plans.{accepted-direct}
 use Rattle.cleaning.proofs.Starts.{over-length, over-past, frame-in-grid, hand, hand-start}
-use Rattle.cleaner.specs.Turns.{standingImage, Shown, Room, Past, Ended}
-use Rattle.cleaner.specs.Cutting.{ahead, CutAway}
-use Rattle.cleaner.proofs.Accepted.{place-small}
-use Rattle.cleaner.proofs.Alternating.{either, kept-past, past-same, past-then, room-past, same-either, same-of}
-use Rattle.cleaner.proofs.Reading.{cut-turn}
+use Rattle.turn_steps.specs.Turns.{standingImage, Shown, Room, Past, Ended}
+use Rattle.turn_steps.specs.Cutting.{ahead, CutAway}
+use Rattle.turn_steps.specs.Running.{Runnable}
+use Rattle.cleaner.proofs.Accepted.{plan-length, place-small}
+use Rattle.turn_steps.proofs.Alternating.{either, kept-past, past-same, past-then, room-past, same-either, same-of}
+use Rattle.turn_steps.proofs.Reading.{cut-turn}
 
 module _ (plan : List ℕ) (W H : ℕ) (f i j : List ℕ) (z : firstOf (operationTests plan W H f i j) ≡ 0) where
   all-clear : Clear (operationTests plan W H f i j)
@@ -77,8 +78,12 @@ module _ (plan : List ℕ) (W H : ℕ) (f i j : List ℕ) (z : firstOf (operatio
     first-past : Past W H i i₁
     first-past = kept-past W H (p .kept)
 
-    pub packed-room : Room W H i₁ j
+    packed-room : Room W H i₁ j
     packed-room = room-past has-room first-past past-same
+
+    -- so the stages can be run
+    pub runs : Runnable plan W H i₁ j
+    runs = let s = place-small plan plan-accepted in record { words = plan-length plan plan-accepted; across = s .0; down = s .1; room = packed-room }
 
     first-shown : Shown W H 0 (put W H f) i₁ j
     first-shown = subst (λ (g : Point → ℕ). Shows (W + 15) (H + 15) g i₁) (ap (λ l. view free W H l) (low-bits f cells-clean) ∙ sym (put-whole W H f)) (p .shown)
@@ -94,7 +99,7 @@ module _ (plan : List ℕ) (W H : ℕ) (f i j : List ℕ) (z : firstOf (operatio
       first-then : Past W H i i₂
       first-then = past-then first-past (e .first)
 
-      pub ended-room : Room W H i₂ j₂
+      ended-room : Room W H i₂ j₂
       ended-room = room-past packed-room (e .first) (e .second)
 
       sizes : (length i₂ ≡ length i) × (length j₂ ≡ length j)

@@ -1,9 +1,5 @@
 // The four operations on a plan list, a frame and two work images: dilation, erosion, opening and closing. Each tries all grounds before it writes a byte, packs
-// the frame into a plane in the first image, runs one single stage after the other with the images taking turns (`turns`), and cuts the result from the last
-// plane into the other image (`results`).
-mod results;
-mod turns;
-
+// the frame into a plane in the first image, and runs the stages and cuts the result by `turn_steps`.
 use cleaning::Operation;
 use words::Answer;
 ghost use mathlib.Core.Path.{_≡_};
@@ -39,8 +35,7 @@ fn clean(
         return Answer::Refused(ground);
     }
     plane_pack::pack(frame, first, w, h, w + 15, h + 15, 0);
-    let n = turns::stages(op, plan, w, h, first, second);
-    results::cut(op, plan[1], n, w, h, first, second);
+    let n = turn_steps::run(op, plan, w, h, first, second);
     let run = n as u32;
     Answer::Done(run)
 }

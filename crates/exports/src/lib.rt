@@ -1,32 +1,19 @@
 // The calls for Rust and C: one function for each, on plain numbers and slices (a pointer and a length). include/musqerpi.h declares them.
 // An answer is the result, or −N for refusal N; what it and the lent words are is said by the call that each stands for.
-ghost use mathlib.Core.Path.{_≡_};
-ghost use lib.IntN.{pos};
 ghost use Rattle.shapes.specs.Calls.{Moved, Joined, Summed, TurnedBack};
 ghost use Rattle.planning.specs.Planning.{Planned};
 ghost use Rattle.grids.specs.Frame.{LoadCounted};
 ghost use Rattle.grids.specs.Grid.{FramePut, Staged};
 ghost use Rattle.cleaning.specs.declared.Operation.the-variants.{Dilation, Erosion, Opening, Closing};
 ghost use Rattle.cleaning.specs.Cleaning.{Cleaned};
-ghost use Rattle.exports.specs.Numbers.{signedOf, Stands, erodes, imageOf, PartFound};
-use words::Answer;
-
-// The result, or −N for refusal N.
-fn signed(a: Answer) -> i64
-    ensures { λ r. ⌜ r ≡ signedOf a ⌝ }
-{
-    match a {
-        Answer::Done(n) => n as i64,
-        Answer::Refused(g) => -(words::number(g) as i64),
-    }
-}
+ghost use Rattle.numbers.specs.Numbers.{Stands, erodes, PartFound};
 
 // Planning a shape.
 #[no_mangle]
 pub extern "C" fn musq_plan(shape: &[u32], out: &mut [u32]) -> i64
     ensures { λ r. ⌜ Stands r (λ a. Planned (now (shape .entry)) (now (out .entry)) a (now (out .exit))) ⌝ }
 {
-    signed(planner::plan(shape, out))
+    numbers::signed(planner::plan(shape, out))
 }
 
 // Turning a plan back into a shape list.
@@ -34,7 +21,7 @@ pub extern "C" fn musq_plan(shape: &[u32], out: &mut [u32]) -> i64
 pub extern "C" fn musq_shape_of_plan(plan: &[u32], out: &mut [u32]) -> i64
     ensures { λ r. ⌜ Stands r (λ a. TurnedBack (now (plan .entry)) (now (out .entry)) a (now (out .exit))) ⌝ }
 {
-    signed(shaping::shape_of_plan(plan, out))
+    numbers::signed(shaping::shape_of_plan(plan, out))
 }
 
 // Moving a shape.
@@ -42,7 +29,7 @@ pub extern "C" fn musq_shape_of_plan(plan: &[u32], out: &mut [u32]) -> i64
 pub extern "C" fn musq_move(shape: &[u32], dx: i32, dy: i32, out: &mut [u32]) -> i64
     ensures { λ r. ⌜ Stands r (λ a. Moved (now (shape .entry)) (dx, dy) (now (out .entry)) a (now (out .exit))) ⌝ }
 {
-    signed(shaping::move_shape(shape, dx, dy, out))
+    numbers::signed(shaping::move_shape(shape, dx, dy, out))
 }
 
 // Joining two shapes.
@@ -50,7 +37,7 @@ pub extern "C" fn musq_move(shape: &[u32], dx: i32, dy: i32, out: &mut [u32]) ->
 pub extern "C" fn musq_join(a: &[u32], b: &[u32], out: &mut [u32]) -> i64
     ensures { λ r. ⌜ Stands r (λ s. Joined (now (a .entry)) (now (b .entry)) (now (out .entry)) s (now (out .exit))) ⌝ }
 {
-    signed(shaping::join_shapes(a, b, out))
+    numbers::signed(shaping::join_shapes(a, b, out))
 }
 
 // Summing two shapes.
@@ -58,7 +45,7 @@ pub extern "C" fn musq_join(a: &[u32], b: &[u32], out: &mut [u32]) -> i64
 pub extern "C" fn musq_sum(a: &[u32], b: &[u32], out: &mut [u32]) -> i64
     ensures { λ r. ⌜ Stands r (λ s. Summed (now (a .entry)) (now (b .entry)) (now (out .entry)) s (now (out .exit))) ⌝ }
 {
-    signed(shaping::sum_shapes(a, b, out))
+    numbers::signed(shaping::sum_shapes(a, b, out))
 }
 
 // The load of a frame.
@@ -66,7 +53,7 @@ pub extern "C" fn musq_sum(a: &[u32], b: &[u32], out: &mut [u32]) -> i64
 pub extern "C" fn musq_load(w: usize, h: usize, frame: &[u8]) -> i64
     ensures { λ r. ⌜ Stands r (λ a. LoadCounted w h (now (frame .entry)) a) ⌝ }
 {
-    signed(framing::load(w, h, frame))
+    numbers::signed(framing::load(w, h, frame))
 }
 
 // Putting a frame into a grid.
@@ -74,7 +61,7 @@ pub extern "C" fn musq_load(w: usize, h: usize, frame: &[u8]) -> i64
 pub extern "C" fn musq_put(w: usize, h: usize, frame: &[u8], image: &mut [u8]) -> i64
     ensures { λ r. ⌜ Stands r (λ a. FramePut w h (now (frame .entry)) (now (image .entry)) a (now (image .exit))) ⌝ }
 {
-    signed(framing::put(w, h, frame, image))
+    numbers::signed(framing::put(w, h, frame, image))
 }
 
 // A single stage, by erosion if the byte erode is anything but 0, else by dilation.
@@ -89,7 +76,7 @@ pub extern "C" fn musq_stage(
 ) -> i64
     ensures { λ r. ⌜ Stands r (λ a. Staged (erodes erode) word w h (now (from .entry)) (now (to .entry)) a (now (to .exit))) ⌝ }
 {
-    signed(framing::stage(word, erode != 0, w, h, from, to))
+    numbers::signed(framing::stage(word, erode != 0, w, h, from, to))
 }
 
 // Dilation of a frame by a plan.
@@ -104,7 +91,7 @@ pub extern "C" fn musq_dilate(
 ) -> i64
     ensures { λ r. ⌜ Stands r (λ a. Cleaned Dilation (now (plan .entry)) w h (now (frame .entry)) (now (first .entry)) (now (second .entry)) a (now (first .exit)) (now (second .exit))) ⌝ }
 {
-    signed(cleaner::dilation(plan, w, h, frame, first, second))
+    numbers::signed(cleaner::dilation(plan, w, h, frame, first, second))
 }
 
 // Erosion of a frame by a plan.
@@ -119,7 +106,7 @@ pub extern "C" fn musq_erode(
 ) -> i64
     ensures { λ r. ⌜ Stands r (λ a. Cleaned Erosion (now (plan .entry)) w h (now (frame .entry)) (now (first .entry)) (now (second .entry)) a (now (first .exit)) (now (second .exit))) ⌝ }
 {
-    signed(cleaner::erosion(plan, w, h, frame, first, second))
+    numbers::signed(cleaner::erosion(plan, w, h, frame, first, second))
 }
 
 // Opening of a frame by a plan.
@@ -134,7 +121,7 @@ pub extern "C" fn musq_open(
 ) -> i64
     ensures { λ r. ⌜ Stands r (λ a. Cleaned Opening (now (plan .entry)) w h (now (frame .entry)) (now (first .entry)) (now (second .entry)) a (now (first .exit)) (now (second .exit))) ⌝ }
 {
-    signed(cleaner::opening(plan, w, h, frame, first, second))
+    numbers::signed(cleaner::opening(plan, w, h, frame, first, second))
 }
 
 // Closing of a frame by a plan.
@@ -149,17 +136,7 @@ pub extern "C" fn musq_close(
 ) -> i64
     ensures { λ r. ⌜ Stands r (λ a. Cleaned Closing (now (plan .entry)) w h (now (frame .entry)) (now (first .entry)) (now (second .entry)) a (now (first .exit)) (now (second .exit))) ⌝ }
 {
-    signed(cleaner::closing(plan, w, h, frame, first, second))
-}
-
-// The number of the image that the part is in: 2, the second, if the number of stages run is even, and 1, the first, if odd.
-fn image_of(n: usize) -> u8
-    ensures { λ r. ⌜ r ≡ imageOf (pos n) ⌝ }
-{
-    if n % 2 == 0 {
-        return 2;
-    }
-    1
+    numbers::signed(cleaner::closing(plan, w, h, frame, first, second))
 }
 
 // The part, for the number that an operation answered: its length, and in image the number of the image that it is the start of. A refusal's
@@ -175,12 +152,5 @@ pub extern "C" fn musq_part<'a>(
 ) -> i64
     ensures { λ r. ⌜ PartFound stages w h (now (first .entry)) (now (second .entry)) r (now (image .exit)) ⌝ }
 {
-    if stages < 0 {
-        *image = 0;
-        return 0;
-    }
-    let n = stages as usize;
-    *image = image_of(n);
-    let found = parts::part(n, w, h, first, second);
-    found.len() as i64
+    numbers::part_of(stages, w, h, first, second, image)
 }

@@ -9,8 +9,9 @@ use Rattle.cleaning.specs.Cleaning.{operationTests}
 use Rattle.frames.proofs.Sides.{sides}
 use Rattle.grids.specs.Frame.{free}
 use Rattle.planes.specs.Planes.{packFits}
-use Rattle.cleaner.proofs.Accepted.{plan-length, place-small, few-stages}
-use Rattle.cleaner.proofs.Working.{plan-accepted, sides-pass, packs, packed-room, ended-room, ran}
+use Rattle.turn_steps.specs.Running.{Runnable}
+use Rattle.cleaner.proofs.Accepted.{few-stages}
+use Rattle.cleaner.proofs.Working.{plan-accepted, sides-pass, packs, runs, ran}
 use native.Mathlib.Omega.{arith}
 use borrow.Author.Needs.{needs}
 use Rattle.cleaner.proofs.clean.Statement.{statement}
@@ -28,6 +29,10 @@ fits : (c : tie.After-enum-told) → let a = start c .args in T (packFits free (
 fits c =
     let a = start c .args in
     packs (a .plan .now) (a .w) (a .h) (a .frame .now) (a .first .now) (a .second .now) (passed c)
+
+-- behind the run: the place where no ground held, and the frame in the plane
+abbrev told : tie.After-run → tie.After-enum-told
+told c = c .before .before .before .before .before .before .before
 
 refused-requires : tie.Need-refused-requires
 refused-requires c κs = search needs
@@ -67,31 +72,22 @@ add-pack-2 c =
 pack-requires : tie.Need-pack-requires
 pack-requires c κs = search needs
 
-stages-requires : tie.Need-stages-requires
-stages-requires c κs =
-    let k = c .before .before .before .before .before .before in
-    let a = start k .args in
-    (plan-accepted (a .plan .now) (a .w) (a .h) (a .frame .now) (a .first .now) (a .second .now) (passed k), packed-room (a .plan .now) (a .w) (a .h) (a .frame .now) (a .first .now) (a .second .now) (passed k) (c .before .before .before .before .pack .ensures .done (fits k)))
+run-requires : tie.Need-run-requires
+run-requires c κs = search needs
 
-shared-slice-read-cut : tie.Need-shared-slice-read-cut
-shared-slice-read-cut c =
-    let k = c .before .before .before .before .before .before .before .before .before .before .before .before in
+-- the frame is packed, so the stages can be run
+able : (c : tie.After-run) → let a = start (told c) .args in Runnable (a .plan .now) (a .w) (a .h) (c .before .before .before .before .before .pack .last .1 .0) (a .second .now)
+able c =
+    let k = told c in
     let a = start k .args in
-    let l = plan-length (a .plan .now) (plan-accepted (a .plan .now) (a .w) (a .h) (a .frame .now) (a .first .now) (a .second .now) (passed k)) in
-    omega arith
-
-cut-requires : tie.Need-cut-requires
-cut-requires c κs =
-    let k = c .before .before .before .before .before .before .before .before .before .before .before .before .before .before in
-    let a = start k .args in
-    let p = place-small (a .plan .now) (plan-accepted (a .plan .now) (a .w) (a .h) (a .frame .now) (a .first .now) (a .second .now) (passed k)) in
-    (p .0, p .1, ended-room (a .plan .now) (a .w) (a .h) (a .frame .now) (a .first .now) (a .second .now) (passed k) (c .before .before .before .before .before .before .before .before .before .before .before .before .pack .ensures .done (fits k)) (c .before .before .before .before .before .before .before .stages .ensures))
+    runs (a .plan .now) (a .w) (a .h) (a .frame .now) (a .first .now) (a .second .now) (passed k) (c .before .before .before .before .before .pack .ensures .done (fits k))
 
 cast-run : tie.Need-cast-run
 cast-run c =
-    let k = c .before .before .before .before .before .before .before .before .before .before .before .before .before .before .before .before .before .before .before in
+    let at = c .before .before .before .before in
+    let k = told at in
     let a = start k .args in
-    let l = few-stages (a .plan .now) (plan-accepted (a .plan .now) (a .w) (a .h) (a .frame .now) (a .first .now) (a .second .now) (passed k)) (a .op) (c .before .before .before .before .before .before .before .before .before .before .before .before .stages .ensures .count) in
+    let l = few-stages (a .plan .now) (plan-accepted (a .plan .now) (a .w) (a .h) (a .frame .now) (a .first .now) (a .second .now) (passed k)) (a .op) (at .run .ensures .through (able at) .ended .count) in
     record { fits = omega arith }
 
 same-length-3 : tie.Need-same-length-3
@@ -102,9 +98,11 @@ same-length-4 c = search needs
 
 returns-2 : tie.Need-returns-2
 returns-2 c =
-    let k = c .before .before .before .before .before .before .before .before .before .before .before .before .before .before .before .before .before .before .before in
+    let at = c .before .before .before .before in
+    let k = told at in
     let a = start k .args in
-    ran (a .plan .now) (a .w) (a .h) (a .frame .now) (a .first .now) (a .second .now) (passed k) (c .before .before .before .before .before .before .before .before .before .before .before .before .before .before .before .before .before .pack .ensures .done (fits k)) (c .before .before .before .before .before .before .before .before .before .before .before .before .stages .ensures) (c .before .before .before .before .cut .ensures) _ refl
+    let t = at .run .ensures .through (able at) in
+    ran (a .plan .now) (a .w) (a .h) (a .frame .now) (a .first .now) (a .second .now) (passed k) (at .before .before .before .before .before .pack .ensures .done (fits k)) (t .ended) (t .away) _ refl
 
 pub clean-spec : {M : Type 1} → statement M
 clean-spec =
@@ -119,9 +117,7 @@ clean-spec =
     add-pack
     add-pack-2
     pack-requires
-    stages-requires
-    shared-slice-read-cut
-    cut-requires
+    run-requires
     cast-run
     same-length-3
     same-length-4

@@ -1,0 +1,47 @@
+// The numbers that calls for other languages answer: an answer as one signed number, and where the part is for the number that an operation answered.
+ghost use mathlib.Core.Path.{_≡_};
+ghost use lib.IntN.{pos};
+ghost use Rattle.numbers.specs.Numbers.{signedOf, imageOf, PartFound};
+use words::Answer;
+
+// The result, or −N for refusal N.
+pub fn signed(a: Answer) -> i64
+    ensures { λ r. ⌜ r ≡ signedOf a ⌝ }
+{
+    match a {
+        Answer::Done(n) => n as i64,
+        Answer::Refused(g) => -(words::number(g) as i64),
+    }
+}
+
+// The number of the image that the part is in: 2, the second, if the number of stages run is even, and 1, the first, if odd.
+fn image_of(n: usize) -> u8
+    ensures { λ r. ⌜ r ≡ imageOf (pos n) ⌝ }
+{
+    if n % 2 == 0 {
+        return 2;
+    }
+    1
+}
+
+// The part, for the number that an operation answered: its length, and in image the number of the image that it is the start of. A refusal's
+// part is empty, in no image.
+pub fn part_of<'a>(
+    stages: i64,
+    w: usize,
+    h: usize,
+    first: &'a [u8],
+    second: &'a [u8],
+    image: &mut u8,
+) -> i64
+    ensures { λ r. ⌜ PartFound stages w h (now (first .entry)) (now (second .entry)) r (now (image .exit)) ⌝ }
+{
+    if stages < 0 {
+        *image = 0;
+        return 0;
+    }
+    let n = stages as usize;
+    *image = image_of(n);
+    let found = parts::part(n, w, h, first, second);
+    found.len() as i64
+}

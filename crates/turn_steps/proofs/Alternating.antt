@@ -1,0 +1,137 @@
+-- Images that take turns: what a single stage makes of the image that it reads and of the one that it writes, stage after stage.
+use mathlib.Core.Path.{_≡_, refl, sym, _∙_, ap, subst}
+use mathlib.Core.Bool.{Bool, true, false, not, cond}
+use mathlib.Core.List.{List, map}
+use Prim.Native.Nat.{ℕ, _+_, _%_, _<_, _≤_}
+use native.Mathlib.Omega.{arith}
+use native.Mathlib.Numerals.{add-one}
+use borrow.Author.Tests.{eqb-true, eqb-false, eq-eqb, ne-eqb}
+use lib.Dec.{T, eqb}
+use lib.ListN.{length, getD, drop, length-drop, length-map, drop-of-length-le}
+use lib.Seq.{drop-cons}
+use Rattle.words.specs.Word.{stageMask}
+use Rattle.shapes.specs.Plan.{planMasks}
+use Rattle.grids.specs.Frame.{free, gridSize}
+use Rattle.grids.specs.Grid.{grid, once}
+use Rattle.planes.specs.Planes.{Kept, Shows, stageFits, PlaneTaken, unpackFits}
+use Rattle.planes.proofs.OnGrids.{plane-fits, kept-drop, after-once, grid-stage, grid-unpack}
+use Rattle.frames.proofs.Sides.{sides}
+use Rattle.plane.specs.Point.{Point}
+use Rattle.cleaning.specs.Operation.{through}
+use Rattle.cleaning.specs.Cleaning.{resultImage}
+use Rattle.cleaning.proofs.Starts.{frame-in-grid}
+use Rattle.turn_steps.specs.Turns.{standingImage, Shown, Past, Room, Turned, Passed}
+
+-- ---- planes in images
+
+-- bytes past the plane that are the same are the same past the grid
+pub kept-past : (W H : ℕ) {d d′ : List ℕ} → Kept (W + 15) (H + 15) d d′ → Past W H d d′
+kept-past W H k = record { size = k .len; rest = kept-drop W H k }
+
+pub past-same : {W H : ℕ} {d : List ℕ} → Past W H d d
+past-same = record { size = refl; rest = refl }
+
+pub past-then : {W H : ℕ} {d d′ d″ : List ℕ} → Past W H d d′ → Past W H d′ d″ → Past W H d d″
+past-then p q = record { size = q .size ∙ p .size; rest = q .rest ∙ p .rest }
+
+-- images that have room for the grid have it for a stage and for the cut
+module _ {W H : ℕ} {i j : List ℕ} (r : Room W H i j) (p d : List ℕ) (hp : gridSize W H ≤ length p) (hd : gridSize W H ≤ length d) where
+  pub room-stage : T (stageFits free (W + 15) (H + 15) (length p) (length d))
+  room-stage = let s = sides W H (r .sides) in grid-stage W H (s .0) (s .1) (length p) (length d) (omega (arith, plane-fits W H)) (omega (arith, plane-fits W H))
+
+  pub room-cut : (a b : ℕ) → a ≤ 30 → b ≤ 30 → T (unpackFits W H (W + 15) (H + 15) a b (length p) (length d))
+  room-cut a b ha hb =
+      let s = sides W H (r .sides) in
+      grid-unpack W H (s .0) (s .1) W H a b (length p) (length d) (omega arith) (omega arith) ha hb (omega (arith, plane-fits W H)) (omega (arith, frame-in-grid W H))
+
+-- ---- one turn
+
+module _ {erode : Bool} {m W H t : ℕ} {i j : List ℕ} where
+  -- after an even number of stages from the first image into the second
+  pub from-first : {j′ : List ℕ} → t % 2 ≡ 0 → PlaneTaken erode free (W + 15) (H + 15) m i j j′ → Turned erode m W H t i j i j′
+  from-first {j′} e s = let b = eq-eqb (t % 2) 0 e in record { from = rw b; to = rw b s }
+
+  -- after an odd number from the second into the first
+  pub from-second : {i′ : List ℕ} → (t % 2 ≡ 0 → ⊥) → PlaneTaken erode free (W + 15) (H + 15) m j i i′ → Turned erode m W H t i j i′ j
+  from-second {i′} e s = let b = ne-eqb (t % 2) 0 e in record { from = rw b; to = rw b s }
+
+-- ---- turn after turn
+
+-- after one stage more the images have changed their parts
+flips : (t : ℕ) → eqb ((t + 1) % 2) 0 ≡ not (eqb (t % 2) 0)
+flips t = go (eqb ((t + 1) % 2) 0) (eqb (t % 2) 0) refl refl
+  where
+    go : (a b : Bool) → eqb ((t + 1) % 2) 0 ≡ a → eqb (t % 2) 0 ≡ b → a ≡ not b
+    go true true p q = absurd (let e = eqb-true ((t + 1) % 2) 0 p in let f = eqb-true (t % 2) 0 q in omega arith)
+    go true false p q = refl
+    go false true p q = refl
+    go false false p q = absurd (eqb-false (t % 2) 0 q (let e = eqb-false ((t + 1) % 2) 0 p in omega arith))
+
+other : {A : Type 0} (b : Bool) (x y : A) → cond (not b) x y ≡ cond b y x
+other true x y = refl
+other false x y = refl
+
+pub stands-next : (t : ℕ) (i j : List ℕ) → standingImage (t + 1) i j ≡ resultImage t i j
+stands-next t i j = ap (λ b. cond b i j) (flips t) ∙ other (eqb (t % 2) 0) i j
+
+-- whichever of two images is long enough, the one that stands or gets the result is
+pub either : (b : Bool) (n : ℕ) (i j : List ℕ) → n ≤ length i → n ≤ length j → n ≤ length (cond b i j)
+either true n i j h k = h
+either false n i j h k = k
+
+-- what holds of the image that stands and of the other holds of the first and of the second
+pub same-either : {B : Type 0} (f : List ℕ → B) (b : Bool) (i j i′ j′ : List ℕ) → f (cond b i′ j′) ≡ f (cond b i j) → f (cond b j′ i′) ≡ f (cond b j i) → (f i′ ≡ f i) × (f j′ ≡ f j)
+same-either f true i j i′ j′ p q = (p, q)
+same-either f false i j i′ j′ p q = (q, p)
+
+pub same-of : {B : Type 0} (f : List ℕ → B) (b : Bool) (i j i′ j′ : List ℕ) → f i′ ≡ f i → f j′ ≡ f j → f (cond b i′ j′) ≡ f (cond b i j)
+same-of f true i j i′ j′ p q = p
+same-of f false i j i′ j′ p q = q
+
+-- images that are each as they were, or were changed as images may be
+pub both-past : {W H : ℕ} (b : Bool) (i j i′ j′ : List ℕ) → cond b i′ j′ ≡ cond b i j → Past W H (cond b j i) (cond b j′ i′) → Past W H i i′ × Past W H j j′
+both-past {W} {H} true i j i′ j′ e p = (subst (λ (x : List ℕ). Past W H i x) (sym e) past-same, p)
+both-past {W} {H} false i j i′ j′ e p = (p, subst (λ (x : List ℕ). Past W H j x) (sym e) past-same)
+
+-- between two stages of a plan, of which those before word k were run: n in all, and what is left to run takes the grid that stands to the last one
+pub record Midway (erode : Bool) (plan : List ℕ) (W H t : ℕ) (i j : List ℕ) (k n : ℕ) (i′ j′ : List ℕ) : Type 0 where
+  pub stands : List ℕ → List ℕ
+  pub shown : (g : List ℕ) → Shown W H t g i j → Shown W H n (stands g) i′ j′
+  pub left : (g : List ℕ) → through (once erode free W H) (map stageMask (drop k plan)) (stands g) ≡ through (once erode free W H) (planMasks plan) g
+  pub first : Past W H i i′
+  pub second : Past W H j j′
+  pub count : n + 2 ≡ t + k
+
+-- images that were changed as images may be have room where they had it
+pub room-past : {W H : ℕ} {i j i′ j′ : List ℕ} → Room W H i j → Past W H i i′ → Past W H j j′ → Room W H i′ j′
+room-past r p q = record { sides = r .sides; first = omega (arith, r .first, p .size); second = omega (arith, r .second, q .size) }
+
+module _ {erode : Bool} {plan : List ℕ} {W H t : ℕ} {i j : List ℕ} where
+  pub midway-start : Midway erode plan W H t i j 2 t i j
+  midway-start = record { stands = λ g. g; shown = λ g s. s; left = λ g. refl; first = past-same; second = past-same; count = refl }
+
+  pub midway-more : {k n : ℕ} {i′ j′ i″ j″ : List ℕ} → Midway erode plan W H t i j k n i′ j′ → Turned erode (stageMask (getD plan k 0)) W H n i′ j′ i″ j″ → k < length plan
+      → Midway erode plan W H t i j (k + 1) (n + 1) i″ j″
+  midway-more {k} {n} {i′} {j′} {i″} {j″} m s h =
+      let b = both-past (eqb (n % 2) 0) i′ j′ i″ j″ (s .from) (kept-past W H (s .to .kept)) in record {
+        stands = λ g. once erode free W H (stageMask (getD plan k 0)) (m .stands g);
+        shown = λ g u.
+            subst (λ (x : List ℕ). Shows (W + 15) (H + 15) (grid free W H (once erode free W H (stageMask (getD plan k 0)) (m .stands g))) x) (sym (stands-next n i″ j″))
+            (subst (λ (f : Point → ℕ). Shows (W + 15) (H + 15) f (resultImage n i″ j″)) (after-once erode free W H (stageMask (getD plan k 0)) (m .stands g))
+            (s .to .shown (grid free W H (m .stands g)) (m .shown g u)));
+        left = λ g.
+            ap (λ (q : ℕ). through (once erode free W H) (map stageMask (drop q plan)) (once erode free W H (stageMask (getD plan k 0)) (m .stands g))) (add-one k)
+            ∙ sym (ap (λ ws. through (once erode free W H) (map stageMask ws) (m .stands g)) (drop-cons plan k 0 h)) ∙ m .left g;
+        first = past-then (m .first) (b .0);
+        second = past-then (m .second) (b .1);
+        count = omega (arith, m .count);
+      }
+
+  pub midway-end : {k n : ℕ} {i′ j′ : List ℕ} → Midway erode plan W H t i j k n i′ j′ → 2 ≤ k → k ≡ length plan → Passed erode plan W H t i j n i′ j′
+  midway-end {k} {n} {i′} {j′} m l e = record {
+    count = let c = m .count in omega (arith, length-map (drop 2 plan) stageMask, length-drop 2 plan);
+    first = m .first;
+    second = m .second;
+    shown = λ g u. subst (λ (x : List ℕ). Shown W H n x i′ j′)
+        (ap (λ ws. through (once erode free W H) (map stageMask ws) (m .stands g)) (sym (drop-of-length-le plan {i = k} (omega arith))) ∙ m .left g) (m .shown g u);
+  }

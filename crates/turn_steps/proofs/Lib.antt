@@ -1,0 +1,3 @@
+pub mod Alternating
+pub mod Ending
+pub mod Reading

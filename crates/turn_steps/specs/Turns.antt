@@ -1,0 +1,56 @@
+-- Document 01, "Frames": two work images that take turns. A plane that shows the grid stands in one of them, and each single stage writes the next one into the other.
+use mathlib.Core.Path.{_≡_}
+use mathlib.Core.Bool.{Bool, false, cond}
+use mathlib.Core.List.{List}
+use Prim.Native.Nat.{ℕ, _+_, _%_, _≤_}
+use lib.Dec.{eqb}
+use lib.ListN.{length, drop}
+use Rattle.shapes.specs.Plan.{planMasks}
+use Rattle.grids.specs.Frame.{free, badSize, gridSize}
+use Rattle.grids.specs.Grid.{grid, once}
+use Rattle.planes.specs.Planes.{Shows, PlaneTaken}
+use Rattle.cleaning.specs.declared.Operation.{Operation}
+use Rattle.cleaning.specs.Operation.{through, lastGrid}
+use Rattle.cleaning.specs.Cleaning.{stagesRun, resultImage}
+
+-- the image in which the plane stands after t stages: the first if t is even, the second if odd, so that the result goes into the other
+abbrev pub standingImage : ℕ → List ℕ → List ℕ → List ℕ
+standingImage t first second = cond (eqb (t % 2) 0) first second
+
+-- the plane that stands after t stages shows the grid g
+abbrev pub Shown : ℕ → ℕ → ℕ → List ℕ → List ℕ → List ℕ → Type 0
+Shown W H t g i j = Shows (W + 15) (H + 15) (grid free W H g) (standingImage t i j)
+
+-- as many words as a plan list has
+abbrev pub Worded : List ℕ → Type 0
+Worded plan = (2 ≤ length plan) × (length plan ≤ 32)
+
+-- sides that pass, and two images that are long enough
+pub record Room (W H : ℕ) (i j : List ℕ) : Type 0 where
+  pub sides : badSize W H ≡ false
+  pub first : gridSize W H ≤ length i
+  pub second : gridSize W H ≤ length j
+
+-- an image as long as it was, and the same past its grid
+pub record Past (W H : ℕ) (d d′ : List ℕ) : Type 0 where
+  pub size : length d′ ≡ length d
+  pub rest : drop (gridSize W H) d′ ≡ drop (gridSize W H) d
+
+-- a single stage after t others: from the image in which the plane stands, which is unchanged, into the other
+pub record Turned (erode : Bool) (m W H t : ℕ) (i j i′ j′ : List ℕ) : Type 0 where
+  pub from : standingImage t i′ j′ ≡ standingImage t i j
+  pub to : PlaneTaken erode free (W + 15) (H + 15) m (standingImage t i j) (resultImage t i j) (resultImage t i′ j′)
+
+-- all stages of a plan were run, in order, after t others: whatever grid was shown, the grid taken through them is
+pub record Passed (erode : Bool) (plan : List ℕ) (W H t : ℕ) (i j : List ℕ) (r : ℕ) (i′ j′ : List ℕ) : Type 0 where
+  pub count : r ≡ t + length (planMasks plan)
+  pub first : Past W H i i′
+  pub second : Past W H j j′
+  pub shown : (g : List ℕ) → Shown W H t g i j → Shown W H r (through (once erode free W H) (planMasks plan) g) i′ j′
+
+-- the stages of an operation were run on the plane in the first image
+pub record Ended (op : Operation) (plan : List ℕ) (W H : ℕ) (i j : List ℕ) (r : ℕ) (i′ j′ : List ℕ) : Type 0 where
+  pub count : r ≡ stagesRun op (length (planMasks plan))
+  pub first : Past W H i i′
+  pub second : Past W H j j′
+  pub shown : (g : List ℕ) → Shown W H 0 g i j → Shown W H r (lastGrid op W H (planMasks plan) g) i′ j′
