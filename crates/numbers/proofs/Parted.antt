@@ -1,5 +1,5 @@
 -- The part is the start of the image whose number is given; a refusal's is empty.
-use mathlib.Core.Path.{_≡_, refl, _∙_, ap, subst}
+use mathlib.Core.Path.{_≡_, refl, sym, _∙_, ap, subst}
 use mathlib.Core.Bool.{Bool, true, false, cond, _||_}
 use mathlib.Core.List.{List, []}
 use Prim.Native.Nat.{ℕ, _*_, _%_}
@@ -60,3 +60,7 @@ ran (negsuc n) t = absurd (subst T t tt)
 pub ran-fits : (a : ℤ) → ltZ a (pos 0) ≡ false → SFits w64 a → T (nonNeg a) × Fits w64 (natAbs a)
 ran-fits (pos n) t f = (tt, record { fits = (let l = f .sfits in omega arith) })
 ran-fits (negsuc n) t f = absurd (subst T t tt)
+
+-- the same part, for an answer and with a number that are the same
+pub found-for : {a b : ℤ} {W H : ℕ} {i j : List ℕ} {r s : ℤ} {k : ℕ} → a ≡ b → s ≡ r → PartFound a W H i j r k → PartFound b W H i j s k
+found-for {a = a} {W = W} {H = H} {i = i} {j = j} {r = r} {s = s} {k = k} e f p = subst (λ n. PartFound n W H i j s k) e (subst (λ n. PartFound a W H i j n k) (sym f) p)
