@@ -156,7 +156,7 @@ impl Shape {
         Window {
             ax: above(15, self.x),
             ay: above(15, self.y),
-            rows: rows::raised(rows, above(self.x, 15), above(self.y, 15) as usize),
+            rows: row_steps::raised(rows, above(self.x, 15), above(self.y, 15) as usize),
         }
     }
 
@@ -182,7 +182,7 @@ impl Shape {
             fits: true,
             x: i + 15 - ax,
             y: (j as u32) + 15 - ay,
-            rows: rows::lowered(rows, i, j),
+            rows: row_steps::lowered(rows, i, j),
         }
     }
 }
@@ -210,7 +210,7 @@ fn union(a: Shape, b: Shape) -> Shape
         fits: true,
         x: x,
         y: y,
-        rows: rows::joined(rows::raised(p, i, j), rows::raised(q, k, l)),
+        rows: row_steps::joined(row_steps::raised(p, i, j), row_steps::raised(q, k, l)),
     }
 }
 
@@ -232,7 +232,7 @@ fn sum(a: Shape, b: Shape) -> Shape
     if !within(p, extents::last_column(q), extents::last_row(q), 15) {
         return nothing();
     }
-    let r = rows::sum_of(p, q);
+    let r = row_steps::sum_of(p, q);
     if !within(r, x - 15, (y - 15) as usize, 30) {
         return nothing();
     }

@@ -85,8 +85,8 @@ fn with_stage(z: [u16; 16], ws: &[u32], at: usize) -> [u16; 16]
     let word = word_at(ws, at);
     match word {
         Word::Stage(m) => {
-            let mask = rows::mask_rows((m % 512) as u16);
-            rows::sum_of(z, mask)
+            let mask = row_steps::mask_rows((m % 512) as u16);
+            row_steps::sum_of(z, mask)
         }
         _ => z,
     }
