@@ -28,7 +28,7 @@ fn lone(b: u16) -> bool
     if b == 0 {
         return true;
     }
-    b >> (edges::first_in(b) as u32) == 1
+    b >> (edge_steps::first_in(b) as u32) == 1
 }
 
 // Whether b is spaced by the step: then only its greatest number has none a step later.
@@ -82,13 +82,13 @@ fn marked(b: [u16; 16], s: [u16; 16], v: [u16; 16], y: u32) -> [u16; 16]
 fn face_rows(cells: [u16; 16]) -> [u16; 16]
     ensures { λ r. ⌜ ((i : ℕ) → i < 16 → Shown (Shadow row i (At cells)) (getD r i 0)) ⌝ }
 {
-    let s = edges::greatest_of(cells);
+    let s = edge_steps::greatest_of(cells);
     let mut r = [0u16; 16];
     let mut y = 0;
     while y < 16 {
         let row = cells[y];
         if row != 0 {
-            let next = marked(r, s, edges::greatest_in(row, y as u16), y as u32);
+            let next = marked(r, s, edge_steps::greatest_in(row, y as u16), y as u32);
             r = next;
         }
         y += 1;
@@ -103,7 +103,7 @@ fn row_at(cells: [u16; 16], b: u16) -> u16
     if b == 0 {
         return 0;
     }
-    cells[edges::first_in(b) as usize]
+    cells[edge_steps::first_in(b) as usize]
 }
 
 // Whether the rows of each face are spaced as those of a sum of masks.

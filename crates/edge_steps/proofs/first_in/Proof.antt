@@ -1,10 +1,10 @@
 -- The zeros below the lowest bit are the column of the first cell.
 use mathlib.Core.Path.{_∙_, ap}
 use lib.Count.{trailingZeros, trailing-le}
 use Rattle.edges.proofs.Columns.{first-of, none-16}
 use native.Mathlib.Omega.{arith}
-use Rattle.edges.proofs.first_in.Statement.{statement}
-use Rattle.edges.proofs.first_in.Tie as tie
+use Rattle.edge_steps.proofs.first_in.Statement.{statement}
+use Rattle.edge_steps.proofs.first_in.Tie as tie
 
 cast-result : tie.Need-cast-result
 cast-result c = omega (arith, trailing-le 16 (c .args .row))

@@ -3,14 +3,14 @@ use mathlib.Core.Path.{_≡_, refl, _∙_}
 use Prim.Native.Nat.{ℕ, _+_, _*_, _≤_, _<_, _-_}
 use lib.ListN.{length, getD, length-set}
 use Rattle.rows.proofs.Known.{rows16}
 use Rattle.edges.specs.Edges.{firstOf, secondOf, middleOf, timesOf}
 use Rattle.edges.proofs.Directions.{inside}
 use Rattle.edges.proofs.Storing.{stored}
 use Rattle.edges.proofs.Greatest.{fits, numbered-none, numbered-all}
 use borrow.Author.Needs.{needs}
 use native.Mathlib.Omega.{arith}
-use Rattle.edges.proofs.numbers.Statement.{statement}
-use Rattle.edges.proofs.numbers.Tie as tie
+use Rattle.edge_steps.proofs.numbers.Statement.{statement}
+use Rattle.edge_steps.proofs.numbers.Tie as tie
 
 abbrev Inv-loop : tie.InvT-loop
 Inv-loop n s r₀ first second middle times i₀ r i = (i ≤ 18) × ((length r ≡ 18)

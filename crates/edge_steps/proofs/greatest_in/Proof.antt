@@ -2,11 +2,11 @@
 use mathlib.Core.Logic.{⊎-elim}
 use Rattle.rows.proofs.RowBits.{bit-in}
 use Rattle.rows.proofs.Sums.{zero-at}
 use Rattle.edges.proofs.Greatest.{raised-none, row-topped}
 use borrow.Author.Needs.{needs}
 use native.Mathlib.Omega.{arith}
-use Rattle.edges.proofs.greatest_in.Statement.{statement}
-use Rattle.edges.proofs.greatest_in.Tie as tie
+use Rattle.edge_steps.proofs.greatest_in.Statement.{statement}
+use Rattle.edge_steps.proofs.greatest_in.Tie as tie
 
 returns : tie.Need-returns
 returns c = record { some = λ i l p q. absurd (omega arith); none = λ e i. zero-at 16 i }

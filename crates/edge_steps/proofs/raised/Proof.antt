@@ -2,15 +2,15 @@
 use mathlib.Core.Path.{_≡_, refl, _∙_}
 use Prim.Native.Nat.{ℕ, _≤_, _<_, _-_}
 use lib.ListN.{length, getD, length-set}
 use Rattle.edges.specs.Edges.{plusX, plusY, minusX, minusY}
 use Rattle.edges.specs.Numbers.{Raised}
 use Rattle.edges.proofs.Directions.{small}
 use Rattle.edges.proofs.Storing.{stored}
 use Rattle.edges.proofs.Greatest.{raised-one}
 use borrow.Author.Needs.{needs}
 use native.Mathlib.Omega.{arith}
-use Rattle.edges.proofs.raised.Statement.{statement}
-use Rattle.edges.proofs.raised.Tie as tie
+use Rattle.edge_steps.proofs.raised.Statement.{statement}
+use Rattle.edge_steps.proofs.raised.Tie as tie
 
 abbrev Inv-loop : tie.InvT-loop
 Inv-loop first last y s a b c d r₀ i₀ r i = (i ≤ 16) × ((length r ≡ 16) × ((k : ℕ) → k < i → Raised k first last y (getD s k 0) (getD r k 0)))

@@ -7,12 +7,12 @@ use Prim.Native.Nat.{ℕ, _+_, _≤_, _<_, _-_}
 use lib.ListN.{getD}
 use Rattle.rows.proofs.Known.{rows16}
 use Rattle.rows.proofs.RowBits.{bit-in}
 use Rattle.edges.specs.Numbers.{Topped}
 use Rattle.edges.proofs.Greatest.{topped-none, topped-skip, topped-row}
 use borrow.Author.Needs.{needs}
 use native.Mathlib.Omega.{arith}
-use Rattle.edges.proofs.tops.Statement.{statement}
-use Rattle.edges.proofs.tops.Tie as tie
+use Rattle.edge_steps.proofs.tops.Statement.{statement}
+use Rattle.edge_steps.proofs.tops.Tie as tie
 
 abbrev Inv-loop : tie.InvT-loop
 Inv-loop n cells s₀ y₀ s y = (y ≤ n) × ((i : ℕ) → i < 16 → Topped i cells y (getD s i 0))

@@ -3,8 +3,8 @@ use Prim.Native.Nat.{_*_, _≤_}
 use native.Mathlib.Nat.{mul-le-mul}
 use native.Mathlib.Omega.{arith}
 use borrow.Author.Needs.{needs}
-use Rattle.edges.proofs.number.Statement.{statement}
-use Rattle.edges.proofs.number.Tie as tie
+use Rattle.edge_steps.proofs.number.Statement.{statement}
+use Rattle.edge_steps.proofs.number.Tie as tie
 
 add-result : tie.Need-add-result
 add-result c = omega arith

@@ -1,8 +1,8 @@
 -- The products are at most 30 each, so nothing wraps and what is taken away is at most 60.
 use Rattle.edges.proofs.Directions.{products}
 use native.Mathlib.Omega.{arith}
-use Rattle.edges.proofs.value.Statement.{statement}
-use Rattle.edges.proofs.value.Tie as tie
+use Rattle.edge_steps.proofs.value.Statement.{statement}
+use Rattle.edge_steps.proofs.value.Tie as tie
 
 mul-result : tie.Need-mul-result
 mul-result c = let k = products (c .pre) in omega arith
