@@ -194,7 +194,7 @@ fn deepening(cells: [u16; 16], w: usize, h: usize) -> Chosen
     let n = d.n;
     let mut nums = [0u8; 9216];
     marks::tabled(&marked, &mut nums);
-    let need = edges::numbers(cells, 16);
+    let need = edge_steps::numbers(cells, 16);
     if !completions::may_sum(cells, need, &nums, &list[0..n], w + h) {
         return Chosen {
             found: false,

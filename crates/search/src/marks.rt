@@ -77,7 +77,7 @@ fn entered(marks: &[u8], table: &mut [u8], m: u16)
     if marks[m as usize] != 1 {
         return;
     }
-    let numbers = edges::numbers(row_steps::mask_rows(m), 3);
+    let numbers = edge_steps::numbers(row_steps::mask_rows(m), 3);
     store(table, m as usize, numbers);
 }
 
