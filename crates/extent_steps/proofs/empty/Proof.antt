@@ -2,9 +2,9 @@
 use borrow.Author.Needs.{needs}
 use borrow.Author.Tests.{eqb-true, eqb-false}
 use Rattle.rows.proofs.Known.{rows16}
 use Rattle.extents.proofs.Search.{first-none, first-some}
-use Rattle.extents.proofs.empty.Statement.{statement}
-use Rattle.extents.proofs.empty.Tie as tie
+use Rattle.extent_steps.proofs.empty.Statement.{statement}
+use Rattle.extent_steps.proofs.empty.Tie as tie
 
 first-row-requires : tie.Need-first-row-requires
 first-row-requires c κs = search needs

@@ -4,10 +4,10 @@ use native.Mathlib.Omega.{arith}
 use Prim.Native.Nat.{_≤_, _-_}
 use mathlib.Core.Path.{refl}
 use Rattle.rows.proofs.Known.{rows16}
 use Rattle.extents.proofs.Search.{AtWord, Below, below-less, below-found, below-done, word-clear, word-in, last-column-of}
-use Rattle.extents.proofs.last_column.Statement.{statement}
-use Rattle.extents.proofs.last_column.Tie as tie
+use Rattle.extent_steps.proofs.last_column.Statement.{statement}
+use Rattle.extent_steps.proofs.last_column.Tie as tie
 use Rattle.extents.specs.Extents.{column}
 
 abbrev Inv-loop : tie.InvT-loop
 Inv-loop c last₀ last = (last ≤ 16) × Below column (AtWord c) last

@@ -3,10 +3,10 @@ use borrow.Author.Needs.{needs}
 use native.Mathlib.Omega.{arith}
 use Prim.Native.Nat.{ℕ, _≤_, _-_}
 use mathlib.Core.Path.{_≡_, subst}
 use Rattle.extents.specs.Extents.{Columns}
 use Rattle.extents.proofs.Search.{columns-none, columns-more}
-use Rattle.extents.proofs.columns.Statement.{statement}
-use Rattle.extents.proofs.columns.Tie as tie
+use Rattle.extent_steps.proofs.columns.Statement.{statement}
+use Rattle.extent_steps.proofs.columns.Tie as tie
 
 abbrev Inv-loop : tie.InvT-loop
 Inv-loop a r₀ y₀ r y = (y ≤ 16) × Columns a y r

@@ -4,10 +4,10 @@ use native.Mathlib.Omega.{arith}
 use Prim.Native.Nat.{_≤_, _-_}
 use mathlib.Core.Path.{refl}
 use Rattle.rows.proofs.Known.{rows16}
 use Rattle.extents.proofs.Search.{AtWord, From, from-none, from-more, from-found, from-done, word-clear, word-in, first-column-of}
-use Rattle.extents.proofs.first_column.Statement.{statement}
-use Rattle.extents.proofs.first_column.Tie as tie
+use Rattle.extent_steps.proofs.first_column.Statement.{statement}
+use Rattle.extent_steps.proofs.first_column.Tie as tie
 use Rattle.extents.specs.Extents.{column}
 
 abbrev Inv-loop : tie.InvT-loop
 Inv-loop c first₀ first = (first ≤ 16) × From column (AtWord c) first
