@@ -39,7 +39,7 @@ fn spans(t: [u16; 16], w: u8, h: u8) -> bool
     if t[h as usize] == 0 {
         return false;
     }
-    let all = extents::columns(t);
+    let all = extent_steps::columns(t);
     if all % 2 == 0 {
         return false;
     }

@@ -215,13 +215,13 @@ pub fn shortest(cells: [u16; 16]) -> Chosen
         n: 0,
         masks: [0; 32],
     };
-    if extents::empty(cells) {
+    if extent_steps::empty(cells) {
         return none;
     }
     if !faces::may_be_sum(cells) {
         return none;
     }
-    let w = extents::last_column(cells) as usize;
-    let h = extents::last_row(cells);
+    let w = extent_steps::last_column(cells) as usize;
+    let h = extent_steps::last_row(cells);
     deepening(cells, w, h)
 }
