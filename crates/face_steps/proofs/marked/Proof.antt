@@ -3,12 +3,12 @@ use mathlib.Core.Path.{_≡_, refl, _∙_}
 use Prim.Native.Nat.{ℕ, _≤_, _<_, _-_}
 use lib.ListN.{length, getD, length-set}
 use Rattle.edges.proofs.Storing.{stored}
 use Rattle.faces.specs.Bits.{Marked}
 use Rattle.faces.proofs.Marking.{marked-one}
 use borrow.Author.Needs.{needs}
 use native.Mathlib.Omega.{arith}
-use Rattle.faces.proofs.marked.Statement.{statement}
-use Rattle.faces.proofs.marked.Tie as tie
+use Rattle.face_steps.proofs.marked.Statement.{statement}
+use Rattle.face_steps.proofs.marked.Tie as tie
 
 abbrev Inv-loop : tie.InvT-loop
 Inv-loop y b s v r₀ i₀ r i = (i ≤ 16) × ((length r ≡ 16) × ((k : ℕ) → k < i → Marked (getD b k 0) (getD s k 0) (getD v k 0) y (getD r k 0)))

@@ -6,12 +6,12 @@ use Prim.Native.Nat.{ℕ, _+_, _≤_, _<_, _-_}
 use lib.ListN.{getD}
 use Rattle.rows.proofs.Known.{rows16}
 use Rattle.rows.proofs.Sums.{zero-at}
 use Rattle.faces.specs.Bits.{RowsTo}
 use Rattle.faces.proofs.Marking.{rows-none, rows-skip, rows-more, rows-done}
 use borrow.Author.Needs.{needs}
 use native.Mathlib.Omega.{arith}
-use Rattle.faces.proofs.face_rows.Statement.{statement}
-use Rattle.faces.proofs.face_rows.Tie as tie
+use Rattle.face_steps.proofs.face_rows.Statement.{statement}
+use Rattle.face_steps.proofs.face_rows.Tie as tie
 
 abbrev Inv-loop : tie.InvT-loop
 Inv-loop cells s r₀ y₀ r y = (y ≤ 16) × ((i : ℕ) → i < 16 → RowsTo i cells (getD s i 0) y (getD r i 0))

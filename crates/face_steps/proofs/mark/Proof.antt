@@ -1,7 +1,7 @@
 -- The branch says whether they are the same.
 use native.Mathlib.Omega.{arith}
-use Rattle.faces.proofs.mark.Statement.{statement}
-use Rattle.faces.proofs.mark.Tie as tie
+use Rattle.face_steps.proofs.mark.Statement.{statement}
+use Rattle.face_steps.proofs.mark.Tie as tie
 
 returns : tie.Need-returns
 returns c = record { small = omega arith; to = λ e. omega arith; from = λ e. omega arith }

@@ -2,12 +2,12 @@
 use mathlib.Core.Bool.{false≢true}
 use borrow.Author.Tests.{not-true, not-false}
 use Rattle.rows.specs.Cells.{At}
 use Rattle.faces.proofs.Marking.{level-4, level-12, columns-shown, into-bits, out-of-bits}
 use Rattle.faces.proofs.Shadows.{no-rows, no-columns}
 use native.Mathlib.Omega.{arith}
 use borrow.Author.Needs.{needs}
-use Rattle.faces.proofs.may_be_sum.Statement.{statement}
-use Rattle.faces.proofs.may_be_sum.Tie as tie
+use Rattle.face_steps.proofs.may_be_sum.Statement.{statement}
+use Rattle.face_steps.proofs.may_be_sum.Tie as tie
 
 face-rows-requires : tie.Need-face-rows-requires
 face-rows-requires c κs = search needs

@@ -3,8 +3,8 @@ use Rattle.rows.proofs.RowBits.{bit-in}
 use mathlib.Core.Path.{refl}
 use native.Mathlib.Omega.{arith}
 use borrow.Author.Needs.{needs}
-use Rattle.faces.proofs.row_at.Statement.{statement}
-use Rattle.faces.proofs.row_at.Tie as tie
+use Rattle.face_steps.proofs.row_at.Statement.{statement}
+use Rattle.face_steps.proofs.row_at.Tie as tie
 
 returns : tie.Need-returns
 returns c = record { none = λ e. refl; some = λ l. absurd (omega arith) }

@@ -3,8 +3,8 @@ use mathlib.Core.Logic.{inl, inr, ⊎-elim}
 use mathlib.Core.Bool.{true≢false, false≢true}
 use native.Mathlib.Omega.{arith}
 use borrow.Author.Needs.{needs}
-use Rattle.faces.proofs.fair.Statement.{statement}
-use Rattle.faces.proofs.fair.Tie as tie
+use Rattle.face_steps.proofs.fair.Statement.{statement}
+use Rattle.face_steps.proofs.fair.Tie as tie
 
 spaced-requires : tie.Need-spaced-requires
 spaced-requires c κs = search needs

@@ -5,11 +5,11 @@ use Prim.Native.Nat.{ℕ}
 use borrow.Author.Tests.{eqb-true, eqb-false}
 use Rattle.rows.specs.Cells.{bit}
 use Rattle.rows.proofs.RowBits.{bit-in, no-bit}
 use Rattle.faces.proofs.BitEnds.{lone-of, two-of}
 use native.Mathlib.Omega.{arith}
 use borrow.Author.Needs.{needs}
-use Rattle.faces.proofs.lone.Statement.{statement}
-use Rattle.faces.proofs.lone.Tie as tie
+use Rattle.face_steps.proofs.lone.Statement.{statement}
+use Rattle.face_steps.proofs.lone.Tie as tie
 
 returns : tie.Need-returns
 returns c =

@@ -1,9 +1,9 @@
 -- One end is one run of steps; two ends are two.
 use Rattle.faces.proofs.BitEnds.{two-ends, one-end}
 use native.Mathlib.Omega.{arith}
 use borrow.Author.Needs.{needs}
-use Rattle.faces.proofs.spaced.Statement.{statement}
-use Rattle.faces.proofs.spaced.Tie as tie
+use Rattle.face_steps.proofs.spaced.Statement.{statement}
+use Rattle.face_steps.proofs.spaced.Tie as tie
 
 ends-requires : tie.Need-ends-requires
 ends-requires c κs = search needs

@@ -1,8 +1,8 @@
 -- The bits of the word less those that have one a step later.
 use Rattle.faces.proofs.BitEnds.{ends-of}
 use borrow.Author.Needs.{needs}
-use Rattle.faces.proofs.ends.Statement.{statement}
-use Rattle.faces.proofs.ends.Tie as tie
+use Rattle.face_steps.proofs.ends.Statement.{statement}
+use Rattle.face_steps.proofs.ends.Tie as tie
 
 cast-result : tie.Need-cast-result
 cast-result c = search needs

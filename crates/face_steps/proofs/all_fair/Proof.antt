@@ -4,12 +4,12 @@ use Prim.Native.Nat.{ℕ, _≤_, _<_, _-_}
 use borrow.Author.Count.{below-more}
 use borrow.Author.Tests.{not-true, not-false}
 use lib.ListN.{getD}
 use Rattle.faces.specs.Faces.{onlyOf, Fair}
 use Rattle.faces.specs.Bits.{Bits}
 use borrow.Author.Needs.{needs}
 use native.Mathlib.Omega.{arith}
-use Rattle.faces.proofs.all_fair.Statement.{statement}
-use Rattle.faces.proofs.all_fair.Tie as tie
+use Rattle.face_steps.proofs.all_fair.Statement.{statement}
+use Rattle.face_steps.proofs.all_fair.Tie as tie
 
 abbrev Inv-loop : tie.InvT-loop
 Inv-loop rows only i₀ i = (i ≤ 16) × ((k : ℕ) → k < i → Fair (onlyOf k) (Bits (getD rows k 0)))
