@@ -218,7 +218,7 @@ pub fn shortest(cells: [u16; 16]) -> Chosen
     if extent_steps::empty(cells) {
         return none;
     }
-    if !faces::may_be_sum(cells) {
+    if !face_steps::may_be_sum(cells) {
         return none;
     }
     let w = extent_steps::last_column(cells) as usize;
