@@ -14,7 +14,7 @@ use Rattle.plane.specs.Lists.{all}
 use Rattle.plane.proofs.Tests.{T-and, T-dec}
 use Rattle.planning.specs.Printer.{digit, wordLines, Reads}
 use Rattle.text.specs.Reader.{lowest, Begun, Held, Further, Kept}
-use Rattle.text.specs.declared.read.Reading.{Reading}
+use Rattle.text.specs.declared.Reading.{Reading}
 use Rattle.text.proofs.Lines.{Next, lowest-more, line-lowest, lines-append, lines-one, lines-rest, next-byte, no-line}
 
 -- bad and good at once

@@ -8,7 +8,7 @@ use lib.Dec.{T, ltb}
 use lib.ListN.{length, take}
 use Rattle.plane.specs.Lists.{all}
 use Rattle.planning.specs.Printer.{digit, wordLines, Reads}
-use Rattle.text.specs.declared.read.Reading.{Reading}
+use Rattle.text.specs.declared.Reading.{Reading}
 
 -- the k lowest hexadecimal digits of v, the highest first
 unfoldable pub lowest : ℕ → ℕ → List ℕ
