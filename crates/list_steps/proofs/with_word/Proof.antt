@@ -4,11 +4,11 @@ use lib.ListN.{getD}
 use denote.Ref.{now}
 use borrow.Author.Needs.{needs}
 use Rattle.rows.proofs.Known.{rows16}
 use Rattle.lists.specs.Held.{cellsIn}
 use Rattle.lists.proofs.Fields.{no-row}
 use Rattle.lists.proofs.Joined.{word-row, word-none}
-use Rattle.lists.proofs.with_word.Statement.{statement}
-use Rattle.lists.proofs.with_word.Tie as tie
+use Rattle.list_steps.proofs.with_word.Statement.{statement}
+use Rattle.list_steps.proofs.with_word.Tie as tie
 
 word-at-requires : tie.Need-word-at-requires
 word-at-requires c κs = search needs

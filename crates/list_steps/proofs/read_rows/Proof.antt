@@ -3,9 +3,9 @@ use Prim.Native.Nat.{_≤_, _-_}
 use native.Mathlib.Omega.{arith}
 use lib.ListN.{length}
 use borrow.Author.Needs.{needs}
 use Rattle.lists.proofs.Joined.{ReadTo, read-none, read-more, read-end}
-use Rattle.lists.proofs.read_rows.Statement.{statement}
-use Rattle.lists.proofs.read_rows.Tie as tie
+use Rattle.list_steps.proofs.read_rows.Statement.{statement}
+use Rattle.list_steps.proofs.read_rows.Tie as tie
 
 abbrev Inv-loop : tie.InvT-loop
 Inv-loop ws r₀ i₀ r i = (1 ≤ i) × ReadTo ws i r

@@ -6,9 +6,9 @@ use native.Mathlib.Omega.{arith}
 use lib.ListN.{length, length-set}
 use borrow.Author.Needs.{needs}
 use Rattle.rows.proofs.Known.{rows16}
 use Rattle.lists.proofs.Written.{Writing, writing-first, writing-row, writing-skip, writing-done, writing-none}
-use Rattle.lists.proofs.write_list.Statement.{statement}
-use Rattle.lists.proofs.write_list.Tie as tie
+use Rattle.word_steps.proofs.write_list.Statement.{statement}
+use Rattle.word_steps.proofs.write_list.Tie as tie
 
 abbrev Inv-loop : tie.InvT-loop
 Inv-loop ax ay out₀ rows n₀ y₀ out n y = (y ≤ 16) × (17 ≤ length out) × Writing ax ay rows out₀ y n out

@@ -2,9 +2,9 @@
 use mathlib.Core.Path.{sym, ap, _∙_}
 use denote.Ref.{now}
 use borrow.Author.Needs.{needs}
 use Rattle.lists.proofs.Fields.{wordIn, word-in}
-use Rattle.lists.proofs.word_at.Statement.{statement}
-use Rattle.lists.proofs.word_at.Tie as tie
+use Rattle.list_steps.proofs.word_at.Statement.{statement}
+use Rattle.list_steps.proofs.word_at.Tie as tie
 
 read-at-requires : tie.Need-read-at-requires
 read-at-requires c κs = search needs

@@ -3,11 +3,11 @@ use mathlib.Core.Path.{sym, ap, _∙_}
 use lib.ListN.{getD}
 use denote.Ref.{now}
 use borrow.Author.Needs.{needs}
 use Rattle.lists.specs.Held.{maskIn}
 use Rattle.lists.proofs.Fields.{no-stage}
 use Rattle.lists.proofs.Summed.{stage-sum, stage-none}
-use Rattle.lists.proofs.with_stage.Statement.{statement}
-use Rattle.lists.proofs.with_stage.Tie as tie
+use Rattle.list_steps.proofs.with_stage.Statement.{statement}
+use Rattle.list_steps.proofs.with_stage.Tie as tie
 
 word-at-requires : tie.Need-word-at-requires
 word-at-requires c κs = search needs

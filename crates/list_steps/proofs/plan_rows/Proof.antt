@@ -3,10 +3,10 @@ use Prim.Native.Nat.{_≤_, _-_, min}
 use native.Mathlib.Omega.{arith}
 use lib.ListN.{length}
 use borrow.Author.Needs.{needs}
 use Rattle.lists.specs.Held.{SumRows, masksFrom}
 use Rattle.lists.proofs.Summed.{sum-origin, sum-more, sum-end}
-use Rattle.lists.proofs.plan_rows.Statement.{statement}
-use Rattle.lists.proofs.plan_rows.Tie as tie
+use Rattle.list_steps.proofs.plan_rows.Statement.{statement}
+use Rattle.list_steps.proofs.plan_rows.Tie as tie
 
 abbrev Inv-loop : tie.InvT-loop
 Inv-loop ws r₀ i₀ r i = (i ≤ length ws) × (min 2 (length ws) ≤ i) × SumRows (masksFrom i ws) r
