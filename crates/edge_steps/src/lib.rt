@@ -4,7 +4,7 @@
 ghost use mathlib.Core.Path.{_≡_};
 ghost use Prim.Native.Nat.{ℕ, _+_, _*_, _≤_, _<_};
 ghost use lib.ListN.{getD};
-ghost use Rattle.edges.specs.Numbers.{FirstFound, LastIn, Greater, Raised, Clipped, Topped, RowTops, Fits, Numbered};
+ghost use Rattle.edges.specs.Numbers.{FirstFound, LastIn, Greater, Supported, Clipped, Topped, RowTops, Fits, Numbered};
 
 // The sixteen directions: (PLUS_X - MINUS_X, PLUS_Y - MINUS_Y).
 const PLUS_X: [u16; 16] = [1, 2, 1, 1, 0, 0, 0, 0, 0, 0, 0, 0, 0, 1, 1, 2];
@@ -60,7 +60,7 @@ fn value(a: u16, b: u16, c: u16, d: u16, first: u16, last: u16, y: u16) -> u16
 // The greatest values s with those of row y, whose cells reach from column first to column last.
 fn raised(s: [u16; 16], first: u16, last: u16, y: u16) -> [u16; 16]
     requires { ⌜ (first ≤ 15) × ((last ≤ 15) × (y ≤ 15)) ⌝ }
-    ensures { λ r. ⌜ ((i : ℕ) → i < 16 → Raised i first last y (getD s i 0) (getD r i 0)) ⌝ }
+    ensures { λ r. ⌜ ((i : ℕ) → i < 16 → Supported i first last y (getD s i 0) (getD r i 0)) ⌝ }
 {
     let a = PLUS_X;
     let b = PLUS_Y;

@@ -7,7 +7,7 @@ ghost use Prim.Native.Nat.{ℕ, _<_};
 ghost use lib.ListN.{getD};
 ghost use Rattle.rows.specs.Cells.{At};
 ghost use Rattle.faces.specs.Faces.{row, Shadow, Spaced, Fair, FairFaces, NeverSum};
-ghost use Rattle.faces.specs.Bits.{Bits, Shown, Ends, Two, Lone, Mark, Marked, RowAt, AllFair, Unfair};
+ghost use Rattle.faces.specs.Bits.{Bits, Indicated, Ends, Two, Lone, Mark, Marked, RowAt, AllFair, Unfair};
 
 // The one step that the rows of a face can have in each direction; 0 where 1 and 2 both can.
 const ONLY: [u8; 16] = [0, 2, 0, 1, 0, 1, 0, 2, 0, 2, 0, 1, 0, 1, 0, 2];
@@ -80,7 +80,7 @@ fn marked(b: [u16; 16], s: [u16; 16], v: [u16; 16], y: u32) -> [u16; 16]
 
 // The rows that the face in each direction has.
 fn face_rows(cells: [u16; 16]) -> [u16; 16]
-    ensures { λ r. ⌜ ((i : ℕ) → i < 16 → Shown (Shadow row i (At cells)) (getD r i 0)) ⌝ }
+    ensures { λ r. ⌜ ((i : ℕ) → i < 16 → Indicated (Shadow row i (At cells)) (getD r i 0)) ⌝ }
 {
     let s = edge_steps::greatest_of(cells);
     let mut r = [0u16; 16];

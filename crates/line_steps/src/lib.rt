@@ -4,7 +4,7 @@ ghost use mathlib.Core.Path.{_≡_};
 ghost use mathlib.Core.Bool.{true};
 ghost use mathlib.Core.List.{[], _∷_};
 ghost use Prim.Native.Nat.{_+_, min};
-ghost use Rattle.text.specs.Reader.{Held, Further, DigitOf, Kept};
+ghost use Rattle.text.specs.Reader.{Held, Further, DigitOf, Updated};
 use text::Reading;
 
 // Nothing has been read.
@@ -55,7 +55,7 @@ fn spoilt(s: Reading) -> Reading
 
 // The words with v at place i; the same words where there is no such place.
 fn with_word(words: [u32; 18], i: usize, v: u32) -> [u32; 18]
-    ensures { λ r. ⌜ Kept words i v r ⌝ }
+    ensures { λ r. ⌜ Updated words i v r ⌝ }
 {
     if 18 <= i {
         return words;

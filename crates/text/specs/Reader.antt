@@ -35,7 +35,7 @@ pub record Further (s : Reading) (more : List ℕ) (r : Reading) : Type 0 where
   pub held : (seen : List ℕ) → Held seen s → Held (seen ++ more) r
 
 -- r is the 18 words ws with v at place i; the same words where there is no such place
-pub record Kept (ws : List ℕ) (i v : ℕ) (r : List ℕ) : Type 0 where
+pub record Updated (ws : List ℕ) (i v : ℕ) (r : List ℕ) : Type 0 where
   pub put : i < 18 → take (i + 1) r ≡ take i ws ++ v ∷ []
   pub full : 18 ≤ i → r ≡ ws
 

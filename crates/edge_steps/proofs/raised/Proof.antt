@@ -3,7 +3,7 @@ use mathlib.Core.Path.{_≡_, refl, _∙_}
 use Prim.Native.Nat.{ℕ, _≤_, _<_, _-_}
 use lib.ListN.{length, getD, length-set}
 use Rattle.edges.specs.Edges.{plusX, plusY, minusX, minusY}
-use Rattle.edges.specs.Numbers.{Raised}
+use Rattle.edges.specs.Numbers.{Supported}
 use Rattle.edges.proofs.Directions.{small}
 use Rattle.edges.proofs.Storing.{stored}
 use Rattle.edges.proofs.Greatest.{raised-one}
@@ -13,7 +13,7 @@ use Rattle.edge_steps.proofs.raised.Statement.{statement}
 use Rattle.edge_steps.proofs.raised.Tie as tie
 
 abbrev Inv-loop : tie.InvT-loop
-Inv-loop first last y s a b c d r₀ i₀ r i = (i ≤ 16) × ((length r ≡ 16) × ((k : ℕ) → k < i → Raised k first last y (getD s k 0) (getD r k 0)))
+Inv-loop first last y s a b c d r₀ i₀ r i = (i ≤ 16) × ((length r ≡ 16) × ((k : ℕ) → k < i → Supported k first last y (getD s k 0) (getD r k 0)))
 
 abbrev μ-loop : tie.MeasureT-loop
 μ-loop first last y s a b c d r₀ i₀ r i = 16 - i
@@ -82,7 +82,7 @@ loop-again c =
       omega arith,
       (
         length-set (h .r) (h .i) (g .result) ∙ h .inv .1 .0,
-        stored (λ k q. Raised k (st .args .first) (st .args .last) (st .args .y) (getD (st .args .t1) k 0) q) (h .r) (h .i) (g .result) (omega (arith, h .inv .1 .0)) (h .inv .1 .1)
+        stored (λ k q. Supported k (st .args .first) (st .args .last) (st .args .y) (getD (st .args .t1) k 0) q) (h .r) (h .i) (g .result) (omega (arith, h .inv .1 .0)) (h .inv .1 .1)
             (raised-one (h .i) _ _ _ _ (v .result) _ (v .ensures) (g .ensures)),
       ),
     )
