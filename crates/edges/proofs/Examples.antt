@@ -1,5 +1,4 @@
--- Numbers of the full mask: its right edge is 2 long, it has none in the direction next to that one, and it is 2 wide and 2 high; two of them together are 4
--- wide. And the first cell of a row, or that there is none.
+-- The numbers of the full mask, each tested over its whole table; two such masks together are 4 wide. And the first cell of a row, or that there is none.
 use mathlib.Core.Path.{refl}
 use mathlib.Core.Bool.{Bool, _&&_}
 use mathlib.Core.List.{[], _∷_}
@@ -14,6 +13,7 @@ use Rattle.rows.specs.Cells.{bit, AtMask, AtSum}
 use Rattle.edges.specs.Edges.{plusX, plusY, minusX, minusY, ahead, behind, Top, firstOf, secondOf, middleOf, timesOf, Number}
 use Rattle.edges.specs.Numbers.{FirstIn, FirstFound}
 use Rattle.edges.proofs.Adding.{number-sum, number-origin}
+use Rattle.edges.proofs.Directions.{inside}
 
 -- the corner of the full mask where direction i is greatest
 cornerX : ℕ → ℕ
@@ -42,24 +42,40 @@ top i l =
           (each-below (λ i. all (λ u. all (not-above i u) (upTo 3)) (upTo 3)) 16 tt i l) u (h .column)) v (h .row));
     }
 
-pub edge-right : Number 0 (AtMask 511) 2
-unfolding plusX plusY minusX minusY firstOf secondOf middleOf timesOf cornerX cornerY
-edge-right = record { x1 = 2; y1 = 0; x2 = 2; y2 = 2; x3 = 2; y3 = 0; first = top 15 (lit< tt); second = top 1 (lit< tt); middle = top 0 (lit< tt); value = refl }
+-- the eighteen numbers of the full mask: four edges 2 long, no other, 2 wide and 2 high
+fullNumber : ℕ → ℕ
+fullNumber i = getD (2 ∷ 0 ∷ 0 ∷ 0 ∷ 2 ∷ 0 ∷ 0 ∷ 0 ∷ 2 ∷ 0 ∷ 0 ∷ 0 ∷ 2 ∷ 0 ∷ 0 ∷ 0 ∷ 2 ∷ 2 ∷ []) i 0
 
-pub edge-none : Number 1 (AtMask 511) 0
-unfolding plusX plusY minusX minusY firstOf secondOf middleOf timesOf cornerX cornerY
-edge-none = record { x1 = 2; y1 = 0; x2 = 2; y2 = 2; x3 = 2; y3 = 2; first = top 0 (lit< tt); second = top 2 (lit< tt); middle = top 1 (lit< tt); value = refl }
+-- what a direction counts ahead and behind at its corner
+abbrev aheadMost : ℕ → ℕ
+aheadMost i = ahead i (cornerX i) (cornerY i)
 
-pub width : Number 16 (AtMask 511) 2
-unfolding plusX plusY minusX minusY firstOf secondOf middleOf timesOf cornerX cornerY
-width = record { x1 = 2; y1 = 0; x2 = 0; y2 = 0; x3 = 2; y3 = 0; first = top 0 (lit< tt); second = top 8 (lit< tt); middle = top 0 (lit< tt); value = refl }
+abbrev behindMost : ℕ → ℕ
+behindMost i = behind i (cornerX i) (cornerY i)
 
-pub height : Number 17 (AtMask 511) 2
-unfolding plusX plusY minusX minusY firstOf secondOf middleOf timesOf cornerX cornerY
-height = record { x1 = 2; y1 = 2; x2 = 2; y2 = 0; x3 = 2; y3 = 0; first = top 4 (lit< tt); second = top 12 (lit< tt); middle = top 0 (lit< tt); value = refl }
+-- a number is that of its three directions, each at its corner
+by-corners : ℕ → Bool
+by-corners i = eqb (fullNumber i + (behindMost (firstOf i) + behindMost (secondOf i) + timesOf i * aheadMost (middleOf i)))
+    (aheadMost (firstOf i) + aheadMost (secondOf i) + timesOf i * behindMost (middleOf i))
+
+full : (i : ℕ) → i < 18 → Number i (AtMask 511) (fullNumber i)
+unfolding plusX plusY minusX minusY firstOf secondOf middleOf timesOf cornerX cornerY fullNumber by-corners
+full i l = record {
+  x1 = cornerX (firstOf i);
+  y1 = cornerY (firstOf i);
+  x2 = cornerX (secondOf i);
+  y2 = cornerY (secondOf i);
+  x3 = cornerX (middleOf i);
+  y3 = cornerY (middleOf i);
+  first = top (firstOf i) (omega (arith, inside i l .first));
+  second = top (secondOf i) (omega (arith, inside i l .second));
+  middle = top (middleOf i) (omega (arith, inside i l .middle));
+  value = eqb→eq _ _ (each-below by-corners 18 tt i l);
+}
 
 pub width-of-two : Number 16 (AtSum (511 ∷ 511 ∷ [])) 4
-width-of-two = number-sum width (number-sum width number-origin)
+unfolding fullNumber
+width-of-two = let w = full 16 (lit< tt) in number-sum w (number-sum w number-origin)
 
 -- column 0 is the first of a row with column 0 alone
 first-column : FirstIn 1 0
