@@ -1,6 +1,6 @@
 // The eighteen numbers of rows, which add up under ⊕: numbers. A row's greatest value of a direction is at its first or at its last cell, so that two columns
-// of each row are enough; each number then puts the greatest values of three directions together. greatest_of and greatest_in are the greatest values themselves,
-// of rows and of one row, and first_in is a row's first column. What the numbers are, and what each function answers: specs/ of the crate edges.
+// of each row are enough; each number then puts the greatest values of three directions together. greatest_of and greatest_in are the greatest values
+// themselves, of rows and of one row, and first_in is a row's first column. What the numbers are, and what each function answers: specs/ of the crate edges.
 ghost use mathlib.Core.Path.{_≡_};
 ghost use Prim.Native.Nat.{ℕ, _+_, _*_, _≤_, _<_};
 ghost use lib.ListN.{getD};

@@ -1,5 +1,5 @@
--- The greatest values on rows, a row at a time: a direction goes one way along x, so on a row it is greatest at the first or at the last cell. From the greatest
--- values of three directions comes a number: it is not below 0 by the balance at the middle direction's cell, nor large by that at the first one's.
+-- The greatest values on rows, a row at a time: a direction goes one way along x, so on a row it is greatest at the first or at the last cell. From the
+-- greatest values of three directions comes a number: it is not below 0 by the balance at the middle direction's cell, nor large by that at the first one's.
 use mathlib.Core.Path.{_≡_, refl, sym, ap, subst, _∙_}
 use mathlib.Core.Logic.{_⊎_, inl, inr, ⊎-elim}
 use mathlib.Core.List.{List}

@@ -1,6 +1,6 @@
-// Words into rows of bits: read_anchor and read_rows find the anchor and the cells of a shape list, read_place and plan_rows the place and the sum of a plan list.
-// Any list is read, word by word through the reader: a word of another kind than its place calls for holds nothing, nor does the end. What a list holds: specs/
-// of the crate lists.
+// Words into rows of bits: read_anchor and read_rows find the anchor and the cells of a shape list, read_place and plan_rows the place and the sum of a plan
+// list. Any list is read, word by word through the reader: a word of another kind than its place calls for holds nothing, nor does the end.
+// What a list holds: specs/ of the crate lists.
 ghost use mathlib.Core.Path.{_≡_};
 ghost use lib.ListN.{getD};
 ghost use Rattle.words.specs.Read.{wordOf};

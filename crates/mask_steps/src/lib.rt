@@ -1,5 +1,5 @@
-// Sums and residues of rows by a 3×3 mask: grown and shrunk. Each row is moved by the mask's nine cells alike, and what a cell of the mask moves is kept by a word of ones where the
-// mask has the cell: no test stands in the loop over the rows. What rows and masks stand for: specs/ of the crate rows.
+// Sums and residues of rows by a 3×3 mask: grown and shrunk. Each row is moved by the mask's nine cells alike, and what a cell of the mask moves is kept by a
+// word of ones where the mask has the cell: no test stands in the loop over the rows. What rows and masks stand for: specs/ of the crate rows.
 ghost use mathlib.Core.Path.{_≡_};
 ghost use Prim.Native.Nat.{ℕ, _+_, _*_, _≤_, _<_};
 ghost use lib.ListN.{getD};
