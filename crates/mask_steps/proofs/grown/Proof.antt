@@ -70,13 +70,19 @@ loop-less c = search needs
 loop-again : tie.Need-loop-again Inv-loop μ-loop
 loop-again c =
     let h = c .before .before .before .before .loop in
-    (omega arith, (simp length-set (h .inv .1 .0), fill-more _ _ _ _ _ _ (omega arith) (omega arith) (cc (c .before .before .strip-sum .ensures, c .before .strip-sum2 .ensures, c .strip-sum3 .ensures)) (h .inv .1 .1)))
+    let p = c .before .before .strip-sum .ensures in
+    let q = c .before .strip-sum2 .ensures in
+    let r = c .strip-sum3 .ensures in
+    (omega arith, (simp length-set (h .inv .1 .0), fill-more _ _ _ _ _ _ (omega arith) (omega arith) (cc (p, q, r)) (h .inv .1 .1)))
 
 returns : tie.Need-returns Inv-loop μ-loop
 returns c =
     let st = c .before .before in
-    let e : c .before .loop .y ≡ 16 = omega arith in
-    grown-made (st .before .args .a) (st .led .result) (st .before .args .m) (st .led .ensures) _ (subst (λ (n : ℕ). Filled (sumRow (st .led .result) (st .before .args .m)) (λ q. 0) 0 n (c .before .loop .r)) e (c .before .loop .inv .1 .1))
+    let h = c .before .loop in
+    let u = st .led .result in
+    let m = st .before .args .m in
+    let e : h .y ≡ 16 = omega arith in
+    grown-made (st .before .args .a) u m (st .led .ensures) _ (subst (λ (n : ℕ). Filled (sumRow u m) (λ q. 0) 0 n (h .r)) e (h .inv .1 .1))
 
 pub grown-spec : {M : Type 1} → statement M
 grown-spec =

@@ -47,10 +47,21 @@ loop-again c =
     let a = c .before .before .args .t1 in
     let e : h .y + 2 - 2 ≡ h .y = omega arith in
     let f : h .y + 2 + 1 ≡ h .y + 1 + 2 = omega arith in
-    (omega arith, (simp length-set (h .inv .1 .0), subst (λ (n : ℕ). Filled (λ q. getD a (q - 2) 0) (λ q. 0) 2 n (set (h .r) (h .y + 2) (getD a (h .y) 0))) f (fill-more _ _ _ _ _ _ (omega arith) (omega arith) (ap (λ (n : ℕ). getD a n 0) (sym e)) (h .inv .1 .1))))
+    let g = fill-more _ _ _ _ _ _ (omega arith) (omega arith) (ap (λ (n : ℕ). getD a n 0) (sym e)) (h .inv .1 .1) in (
+      omega arith,
+      (
+        simp length-set (h .inv .1 .0),
+        subst (λ (n : ℕ). Filled (λ q. getD a (q - 2) 0) (λ q. 0) 2 n (set (h .r) (h .y + 2) (getD a (h .y) 0))) f g,
+      ),
+    )
 
 returns : tie.Need-returns Inv-loop μ-loop
-returns c = led-made _ _ (rows16 (c .before .before .args .t1) _ (c .before .before .good .0)) (let e : c .before .loop .y + 2 ≡ 18 = omega arith in subst (λ (n : ℕ). Filled (λ q. getD (c .before .before .args .t1) (q - 2) 0) (λ q. 0) 2 n (c .before .loop .r)) e (c .before .loop .inv .1 .1))
+returns c =
+    let h = c .before .loop in
+    let a = c .before .before .args .t1 in
+    let e : h .y + 2 ≡ 18 = omega arith in
+    led-made _ _ (rows16 a _ (c .before .before .good .0))
+    (subst (λ (n : ℕ). Filled (λ q. getD a (q - 2) 0) (λ q. 0) 2 n (h .r)) e (h .inv .1 .1))
 
 pub led-spec : {M : Type 1} → statement M
 led-spec =

@@ -70,13 +70,19 @@ loop-less c = search needs
 loop-again : tie.Need-loop-again Inv-loop μ-loop
 loop-again c =
     let h = c .before .before .before .before .loop in
-    (omega arith, (simp length-set (h .inv .1 .0), fill-more _ _ _ _ _ _ (omega arith) (omega arith) (cc (c .before .before .strip-residue .ensures, c .before .strip-residue2 .ensures, c .strip-residue3 .ensures)) (h .inv .1 .1)))
+    let p = c .before .before .strip-residue .ensures in
+    let q = c .before .strip-residue2 .ensures in
+    let r = c .strip-residue3 .ensures in
+    (omega arith, (simp length-set (h .inv .1 .0), fill-more _ _ _ _ _ _ (omega arith) (omega arith) (cc (p, q, r)) (h .inv .1 .1)))
 
 returns : tie.Need-returns Inv-loop μ-loop
 returns c =
     let st = c .before .before in
-    let e : c .before .loop .y ≡ 16 = omega arith in
-    shrunk-made (st .before .args .t) (st .trailed .result) (st .before .args .m) (st .trailed .ensures) _ (subst (λ (n : ℕ). Filled (restRow (st .trailed .result) (st .before .args .m)) (λ q. 0) 0 n (c .before .loop .r)) e (c .before .loop .inv .1 .1))
+    let h = c .before .loop in
+    let u = st .trailed .result in
+    let m = st .before .args .m in
+    let e : h .y ≡ 16 = omega arith in
+    shrunk-made (st .before .args .t) u m (st .trailed .ensures) _ (subst (λ (n : ℕ). Filled (restRow u m) (λ q. 0) 0 n (h .r)) e (h .inv .1 .1))
 
 pub shrunk-spec : {M : Type 1} → statement M
 shrunk-spec =

@@ -44,7 +44,11 @@ loop-again c =
     (omega arith, (simp length-set (h .inv .1 .0), fill-more _ _ _ _ _ _ (omega arith) (omega arith) refl (h .inv .1 .1)))
 
 returns : tie.Need-returns Inv-loop μ-loop
-returns c = trailed-made _ _ (rows16 (c .before .before .args .t1) _ (c .before .before .good .0)) (let e : c .before .loop .y ≡ 16 = omega arith in subst (λ (n : ℕ). Filled (λ q. getD (c .before .before .args .t1) q 0) (λ q. 0) 0 n (c .before .loop .r)) e (c .before .loop .inv .1 .1))
+returns c =
+    let h = c .before .loop in
+    let t = c .before .before .args .t1 in
+    let e : h .y ≡ 16 = omega arith in
+    trailed-made _ _ (rows16 t _ (c .before .before .good .0)) (subst (λ (n : ℕ). Filled (λ q. getD t q 0) (λ q. 0) 0 n (h .r)) e (h .inv .1 .1))
 
 pub trailed-spec : {M : Type 1} → statement M
 trailed-spec =

@@ -27,7 +27,8 @@ with-bytes-requires-2 c κs = search needs
 returns : tie.Need-returns
 returns c =
     let k = c .before .before .before .before in
-    refused-low _ _ _ (k .before .before .before .args .number % 100) (k .before .before .blank .ensures) (k .with-bytes .ensures) _ (omega arith) (c .before .before .digit .ensures) (c .with-bytes2 .ensures)
+    refused-low _ _ _ (k .before .before .before .args .number % 100) (k .before .before .blank .ensures) (k .with-bytes .ensures) _ (omega arith)
+    (c .before .before .digit .ensures) (c .with-bytes2 .ensures)
 
 digit-requires-2 : tie.Need-digit-requires-2
 digit-requires-2 c κs = search needs

@@ -54,23 +54,29 @@ loop-less c = search needs
 
 loop-again : tie.Need-loop-again Inv-loop μ-loop
 loop-again c =
-    let inv = c .before .loop .inv in (
+    let st = c .before .before in
+    let y = c .before .loop .y in
+    let inv = c .before .loop .inv in
+    let below = inv .1 .1 .1 .after y (omega arith) in (
       omega arith,
       (
         omega arith,
         (
           simp length-set (inv .1 .1 .0),
           fill-more _ _ _ _ _ _ (inv .0) (omega arith)
-              (ap (λ (n : ℕ). bitOr n (getD (c .before .before .args .t2) (c .before .loop .y - c .before .before .args .j) 0 * 2 ^ c .before .before .args .i % 65536)) (inv .1 .1 .1 .after (c .before .loop .y) (omega arith))) (inv .1 .1 .1),
+              (ap (λ (n : ℕ). bitOr n (getD (st .args .t2) (y - st .args .j) 0 * 2 ^ st .args .i % 65536)) below)
+              (inv .1 .1 .1),
         ),
       ),
     )
 
 returns : tie.Need-returns Inv-loop μ-loop
 returns c =
+    let st = c .before .before in
     let inv = c .before .loop .inv in
+    let f = ored (st .args .z) (st .args .t2) (st .args .i) (st .args .j) in
     let e : c .before .loop .y ≡ 16 = omega arith in
-    onto-made _ _ _ _ _ (subst (λ (n : ℕ). Filled (ored (c .before .before .args .z) (c .before .before .args .t2) (c .before .before .args .i) (c .before .before .args .j)) (was (c .before .before .args .z)) (c .before .before .args .j) n (c .before .loop .r)) e (inv .1 .1 .1))
+    onto-made _ _ _ _ _ (subst (λ (n : ℕ). Filled f (was (st .args .z)) (st .args .j) n (c .before .loop .r)) e (inv .1 .1 .1))
 
 pub onto-spec : {M : Type 1} → statement M
 onto-spec =

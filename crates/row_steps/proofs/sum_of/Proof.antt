@@ -38,10 +38,11 @@ loop-again : tie.Need-loop-again Inv-loop μ-loop
 loop-again c =
     let st = c .before .before .before in
     let h = c .before .before .loop in
+    let b = rows16 (st .args .t2) _ (st .good .1 .0) in
     let next = SumTo (st .args .a) (st .args .t2) (h .j + 1) in (
       omega arith,
       ⊎-elim
-          (λ w. subst next (sym (w .2)) (sum-more (st .args .a) (st .args .t2) (rows16 (st .args .t2) _ (st .good .1 .0)) (h .j) (h .r) (w .1 .result) (h .inv .1) (w .1 .ensures)))
+          (λ w. subst next (sym (w .2)) (sum-more (st .args .a) (st .args .t2) b (h .j) (h .r) (w .1 .result) (h .inv .1) (w .1 .ensures)))
           (λ w. subst next (sym (w .1)) (sum-skip (st .args .a) (st .args .t2) (h .j) (h .r) (w .0 .left) (h .inv .1)))
           (c .if1 .came),
     )
@@ -49,8 +50,10 @@ loop-again c =
 returns : tie.Need-returns Inv-loop μ-loop
 returns c =
     let st = c .before .before in
-    let e : c .before .loop .j ≡ 16 = omega arith in
-    sum-done (st .args .a) (st .args .t2) (rows16 (st .args .t2) _ (st .good .1 .0)) (c .before .loop .r) (subst (λ (n : ℕ). SumTo (st .args .a) (st .args .t2) n (c .before .loop .r)) e (c .before .loop .inv .1))
+    let h = c .before .loop in
+    let b = rows16 (st .args .t2) _ (st .good .1 .0) in
+    let e : h .j ≡ 16 = omega arith in
+    sum-done (st .args .a) (st .args .t2) b (h .r) (subst (λ (n : ℕ). SumTo (st .args .a) (st .args .t2) n (h .r)) e (h .inv .1))
 
 pub sum-of-spec : {M : Type 1} → statement M
 sum-of-spec =

@@ -69,11 +69,13 @@ loop-again c =
     let inv = c .before .before .loop .inv in
     let f = anded (st .args .z) (st .args .t2) (st .args .i) (st .args .j) in
     let e : getD (c .before .before .loop .r) y 0 ≡ getD (st .args .z) y 0 = inv .1 .1 .after y (omega arith) in
-    let lt : length (st .args .t2) ≡ 16 = st .good .1 .0 .1 .0 .1 in (
+    let lt : length (st .args .t2) ≡ 16 = st .good .1 .0 .1 .0 .1 in
+    let cut = ap (λ (n : ℕ). bitAnd n (getD (st .args .t2) (y + st .args .j) 0 / 2 ^ st .args .i)) e in
+    let out = and-out (st .args .z) (st .args .t2) (st .args .i) (st .args .j) y in (
       omega arith,
       ⊎-elim
-          (λ w. fill-set f (was (st .args .z)) 0 y 16 _ _ _ (w .1) (inv .1 .0) (omega arith) (omega arith) (ap (λ (n : ℕ). bitAnd n (getD (st .args .t2) (y + st .args .j) 0 / 2 ^ st .args .i)) e) (inv .1 .1))
-          (λ w. fill-set f (was (st .args .z)) 0 y 16 _ _ _ (w .1) (inv .1 .0) (omega arith) (omega arith) (and-out (st .args .z) (st .args .t2) (st .args .i) (st .args .j) y (omega (arith, w .0 .left))) (inv .1 .1))
+          (λ w. fill-set f (was (st .args .z)) 0 y 16 _ _ _ (w .1) (inv .1 .0) (omega arith) (omega arith) cut (inv .1 .1))
+          (λ w. fill-set f (was (st .args .z)) 0 y 16 _ _ _ (w .1) (inv .1 .0) (omega arith) (omega arith) (out (omega (arith, w .0 .left))) (inv .1 .1))
           (c .if1 .came),
     )
 
