@@ -1,6 +1,5 @@
 // A partial sum and the one below it by a mask, or that the mask is passed over; which masks are in the place of others.
 use super::numbers;
-use rows::by_mask;
 ghost use mathlib.Core.Path.{_≡_};
 ghost use mathlib.Core.Bool.{true, false};
 ghost use Prim.Native.Nat.{ℕ, _≤_, _<_};
@@ -40,7 +39,7 @@ fn spans(t: [u16; 16], w: u8, h: u8) -> bool
     if t[h as usize] == 0 {
         return false;
     }
-    let all = extents::columns(t);
+    let all = extent_steps::columns(t);
     if all % 2 == 0 {
         return false;
     }
@@ -69,7 +68,7 @@ fn carried(a: [u16; 16], path: [u16; 32], len: usize) -> [u16; 16]
     let mut z = a;
     let mut j: usize = 0;
     while j < len {
-        let next = by_mask::grown(z, path[j]);
+        let next = mask_steps::grown(z, path[j]);
         z = next;
         j += 1;
     }
@@ -89,12 +88,12 @@ fn covers(
     requires { ⌜ len ≤ 32 ⌝ }
     ensures { λ r. ⌜ (r ≡ false → Differs target t path len m) ⌝ }
 {
-    let z = by_mask::grown(t, m);
-    if rows::same(rest, z) {
+    let z = mask_steps::grown(t, m);
+    if row_steps::same(rest, z) {
         return true;
     }
     let y = carried(z, path, len);
-    rows::same(target, y)
+    row_steps::same(target, y)
 }
 
 // Whether the masks of the path sum to the target. Where the residue has the cell (0, 0) their sum lies in the target, so that the window has all of it.
@@ -113,7 +112,7 @@ pub fn finished(here: Here) -> bool
     }
     let origin = [1u16, 0, 0, 0, 0, 0, 0, 0, 0, 0, 0, 0, 0, 0, 0, 0];
     let sum = carried(origin, path, len);
-    rows::same(target, sum)
+    row_steps::same(target, sum)
 }
 
 // The partial sum below by the mask m. It is passed over where a number of m is above what is needed, where it gains nothing in width or height or what it leaves has not
@@ -137,7 +136,7 @@ pub(crate) fn step(here: Here, nums: &[u8], m: u16) -> Child
     let rest = here.rest;
     let path = here.path;
     let len = here.len;
-    let t = by_mask::shrunk(rest, m);
+    let t = mask_steps::shrunk(rest, m);
     let left = numbers::less(need, nums, m);
     if !reaches(t, need, left) {
         return none;
@@ -167,15 +166,15 @@ fn replaces(t: [u16; 16], own: [u16; 16], m: u16, b: u16) -> bool
     if b & m != m {
         return false;
     }
-    let other = by_mask::shrunk(t, b);
-    rows::same(own, other)
+    let other = mask_steps::shrunk(t, b);
+    row_steps::same(own, other)
 }
 
 // The first of the list from r on that replaces m, or the list's length.
 pub(crate) fn replaced(t: [u16; 16], list: &[u16], r: usize, m: u16) -> usize
     ensures { λ p. ⌜ (p < length (now (list .entry)) → (r ≤ p) × ((i j : ℕ) → AtMask m i j → Replaces (At t) m (getD (now (list .entry)) p 0))) ⌝ }
 {
-    let own = by_mask::shrunk(t, m);
+    let own = mask_steps::shrunk(t, m);
     let mut p = r;
     while p < list.len() {
         if replaces(t, own, m, list[p]) {

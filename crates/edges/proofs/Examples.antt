@@ -1,62 +1,86 @@
--- Numbers of the full mask: its right edge is 2 long, it has none in the direction next to that one, and it is 2 wide and 2 high; two of them together are 4
--- wide. And the first cell of a row.
+-- The numbers of the full mask, each tested over its whole table; two such masks together are 4 wide. And the first cell of a row, or that there is none.
 use mathlib.Core.Path.{refl}
+use mathlib.Core.Bool.{Bool, _&&_}
 use mathlib.Core.List.{[], _∷_}
-use Prim.Native.Nat.{zero-le}
+use Prim.Native.Nat.{ℕ, _+_, _*_, _<_, zero-le}
 use native.Mathlib.Omega.{arith}
-use Rattle.rows.specs.Cells.{AtMask, AtSum}
-use Rattle.edges.specs.Edges.{plusX, plusY, minusX, minusY, Top, firstOf, secondOf, middleOf, timesOf, Number}
-use Rattle.edges.specs.Numbers.{FirstIn}
+use lib.Dec.{T, leb, leb→le, ltb, ltb→lt, eqb, eqb→eq, lit<}
+use lib.ListN.{getD}
+use Rattle.plane.specs.Lists.{all, upTo}
+use Rattle.plane.proofs.Tests.{T-and}
+use Rattle.plane.proofs.Member.{each-below}
+use Rattle.rows.specs.Cells.{bit, AtMask, AtSum}
+use Rattle.edges.specs.Edges.{plusX, plusY, minusX, minusY, ahead, behind, Top, firstOf, secondOf, middleOf, timesOf, Number}
+use Rattle.edges.specs.Numbers.{FirstIn, FirstFound}
 use Rattle.edges.proofs.Adding.{number-sum, number-origin}
+use Rattle.edges.proofs.Directions.{inside}
 
--- where seven of the directions are greatest, each at a corner
-top-0 : Top 0 (AtMask 511) 2 0
-unfolding plusX plusY minusX minusY
-top-0 = record { cell = record { column = omega arith; row = omega arith; set = refl }; above = λ u v h. omega (arith, h .column, h .row) }
+-- the corner of the full mask where direction i is greatest
+cornerX : ℕ → ℕ
+cornerX i = getD (2 ∷ 2 ∷ 2 ∷ 2 ∷ 2 ∷ 0 ∷ 0 ∷ 0 ∷ 0 ∷ 0 ∷ 0 ∷ 0 ∷ 2 ∷ 2 ∷ 2 ∷ 2 ∷ []) i 0
 
-top-15 : Top 15 (AtMask 511) 2 0
-unfolding plusX plusY minusX minusY
-top-15 = record { cell = record { column = omega arith; row = omega arith; set = refl }; above = λ u v h. omega (arith, h .column, h .row) }
+cornerY : ℕ → ℕ
+cornerY i = getD (0 ∷ 2 ∷ 2 ∷ 2 ∷ 2 ∷ 2 ∷ 2 ∷ 2 ∷ 0 ∷ 0 ∷ 0 ∷ 0 ∷ 0 ∷ 0 ∷ 0 ∷ 0 ∷ []) i 0
 
-top-1 : Top 1 (AtMask 511) 2 2
-unfolding plusX plusY minusX minusY
-top-1 = record { cell = record { column = omega arith; row = omega arith; set = refl }; above = λ u v h. omega (arith, h .column, h .row) }
+-- it is a cell, and none of the nine cells has a greater value
+corner : ℕ → Bool
+corner i = ltb (cornerX i) 3 && (ltb (cornerY i) 3 && eqb (bit 511 (3 * cornerY i + cornerX i)) 1)
 
-top-2 : Top 2 (AtMask 511) 2 2
-unfolding plusX plusY minusX minusY
-top-2 = record { cell = record { column = omega arith; row = omega arith; set = refl }; above = λ u v h. omega (arith, h .column, h .row) }
+not-above : ℕ → ℕ → ℕ → Bool
+not-above i u v = leb (ahead i u v + behind i (cornerX i) (cornerY i)) (ahead i (cornerX i) (cornerY i) + behind i u v)
 
-top-8 : Top 8 (AtMask 511) 0 0
-unfolding plusX plusY minusX minusY
-top-8 = record { cell = record { column = omega arith; row = omega arith; set = refl }; above = λ u v h. omega (arith, h .column, h .row) }
+-- each of the sixteen directions is greatest at its corner
+top : (i : ℕ) → i < 16 → Top i (AtMask 511) (cornerX i) (cornerY i)
+unfolding plusX plusY minusX minusY cornerX cornerY corner not-above
+top i l =
+    let c = T-and (ltb (cornerX i) 3) (ltb (cornerY i) 3 && eqb (bit 511 (3 * cornerY i + cornerX i)) 1) .0 (each-below corner 16 tt i l) in
+    let d = T-and (ltb (cornerY i) 3) (eqb (bit 511 (3 * cornerY i + cornerX i)) 1) .0 (c .1) in
+    record {
+      cell = record { column = ltb→lt (cornerX i) 3 (c .0); row = ltb→lt (cornerY i) 3 (d .0); set = eqb→eq _ _ (d .1) };
+      above = λ u v h. leb→le _ _
+          (each-below (not-above i u) 3 (each-below (λ u. all (not-above i u) (upTo 3)) 3
+          (each-below (λ i. all (λ u. all (not-above i u) (upTo 3)) (upTo 3)) 16 tt i l) u (h .column)) v (h .row));
+    }
 
-top-4 : Top 4 (AtMask 511) 2 2
-unfolding plusX plusY minusX minusY
-top-4 = record { cell = record { column = omega arith; row = omega arith; set = refl }; above = λ u v h. omega (arith, h .column, h .row) }
+-- the eighteen numbers of the full mask: four edges 2 long, no other, 2 wide and 2 high
+fullNumber : ℕ → ℕ
+fullNumber i = getD (2 ∷ 0 ∷ 0 ∷ 0 ∷ 2 ∷ 0 ∷ 0 ∷ 0 ∷ 2 ∷ 0 ∷ 0 ∷ 0 ∷ 2 ∷ 0 ∷ 0 ∷ 0 ∷ 2 ∷ 2 ∷ []) i 0
 
-top-12 : Top 12 (AtMask 511) 2 0
-unfolding plusX plusY minusX minusY
-top-12 = record { cell = record { column = omega arith; row = omega arith; set = refl }; above = λ u v h. omega (arith, h .column, h .row) }
+-- what a direction counts ahead and behind at its corner
+abbrev aheadMost : ℕ → ℕ
+aheadMost i = ahead i (cornerX i) (cornerY i)
 
-pub edge-right : Number 0 (AtMask 511) 2
-unfolding plusX plusY minusX minusY firstOf secondOf middleOf timesOf
-edge-right = record { x1 = 2; y1 = 0; x2 = 2; y2 = 2; x3 = 2; y3 = 0; first = top-15; second = top-1; middle = top-0; value = refl }
+abbrev behindMost : ℕ → ℕ
+behindMost i = behind i (cornerX i) (cornerY i)
 
-pub edge-none : Number 1 (AtMask 511) 0
-unfolding plusX plusY minusX minusY firstOf secondOf middleOf timesOf
-edge-none = record { x1 = 2; y1 = 0; x2 = 2; y2 = 2; x3 = 2; y3 = 2; first = top-0; second = top-2; middle = top-1; value = refl }
+-- a number is that of its three directions, each at its corner
+by-corners : ℕ → Bool
+by-corners i = eqb (fullNumber i + (behindMost (firstOf i) + behindMost (secondOf i) + timesOf i * aheadMost (middleOf i)))
+    (aheadMost (firstOf i) + aheadMost (secondOf i) + timesOf i * behindMost (middleOf i))
 
-pub width : Number 16 (AtMask 511) 2
-unfolding plusX plusY minusX minusY firstOf secondOf middleOf timesOf
-width = record { x1 = 2; y1 = 0; x2 = 0; y2 = 0; x3 = 2; y3 = 0; first = top-0; second = top-8; middle = top-0; value = refl }
-
-pub height : Number 17 (AtMask 511) 2
-unfolding plusX plusY minusX minusY firstOf secondOf middleOf timesOf
-height = record { x1 = 2; y1 = 2; x2 = 2; y2 = 0; x3 = 2; y3 = 0; first = top-4; second = top-12; middle = top-0; value = refl }
+full : (i : ℕ) → i < 18 → Number i (AtMask 511) (fullNumber i)
+unfolding plusX plusY minusX minusY firstOf secondOf middleOf timesOf cornerX cornerY fullNumber by-corners
+full i l = record {
+  x1 = cornerX (firstOf i);
+  y1 = cornerY (firstOf i);
+  x2 = cornerX (secondOf i);
+  y2 = cornerY (secondOf i);
+  x3 = cornerX (middleOf i);
+  y3 = cornerY (middleOf i);
+  first = top (firstOf i) (omega (arith, inside i l .first));
+  second = top (secondOf i) (omega (arith, inside i l .second));
+  middle = top (middleOf i) (omega (arith, inside i l .middle));
+  value = eqb→eq _ _ (each-below by-corners 18 tt i l);
+}
 
 pub width-of-two : Number 16 (AtSum (511 ∷ 511 ∷ [])) 4
-width-of-two = number-sum width (number-sum width number-origin)
+unfolding fullNumber
+width-of-two = let w = full 16 (lit< tt) in number-sum w (number-sum w number-origin)
 
 -- column 0 is the first of a row with column 0 alone
 first-column : FirstIn 1 0
 first-column = record { cell = refl; all = λ x h. zero-le }
+
+-- a row without a cell is answered by 16
+no-column : FirstFound 0 16
+no-column = record { some = λ p. absurd (omega arith); none = λ e. refl }

@@ -1,5 +1,5 @@
--- The greatest values on rows, a row at a time: a direction goes one way along x, so on a row it is greatest at the first or at the last cell. From the greatest
--- values of three directions comes a number: it is not below 0 by the balance at the middle direction's cell, nor large by that at the first one's.
+-- The greatest values on rows, a row at a time: a direction goes one way along x, so on a row it is greatest at the first or at the last cell. From the
+-- greatest values of three directions comes a number: it is not below 0 by the balance at the middle direction's cell, nor large by that at the first one's.
 use mathlib.Core.Path.{_≡_, refl, sym, ap, subst, _∙_}
 use mathlib.Core.Logic.{_⊎_, inl, inr, ⊎-elim}
 use mathlib.Core.List.{List}
@@ -11,12 +11,12 @@ use Rattle.rows.specs.Cells.{At, Same, bit}
 use Rattle.rows.proofs.RowBits.{no-bit}
 use Rattle.rows.proofs.Sums.{Rows16, in-x, in-y, last-or, zero-at}
 use Rattle.edges.specs.Edges.{plusX, minusX, ahead, behind, Top, firstOf, secondOf, middleOf, timesOf, Number}
-use Rattle.edges.specs.Numbers.{FirstIn, LastIn, Greater, Raised, Attained, Clipped, Topped, RowTopped, Fits, Front, Numbered}
+use Rattle.edges.specs.Numbers.{FirstIn, LastIn, Greater, Supported, Attained, Clipped, Topped, RowTopped, Fits, Front, Numbered}
 use Rattle.edges.proofs.Adding.{number-same}
 use Rattle.edges.proofs.Directions.{ahead-small, behind-small, one-way, inside, balance}
 
 -- ---- a row more
-pub raised-one : (i first last y s v r : ℕ) → v + behind i first y ≡ ahead i last y + 64 → Greater s v r → Raised i first last y s r
+pub raised-one : (i first last y s v r : ℕ) → v + behind i first y ≡ ahead i last y + 64 → Greater s v r → Supported i first last y s r
 raised-one i first last y s v r e g = record {
   kept = g .left;
   over = omega (arith, g .right);
@@ -24,7 +24,7 @@ raised-one i first last y s v r e g = record {
 }
 
 -- over no value the row's own is kept: with its 64 more it is not 0
-pub raised-none : (i first last y s r : ℕ) → i < 16 → first < 16 → y < 16 → s ≡ 0 → Raised i first last y s r → ahead i last y + 64 ≡ behind i first y + r
+pub raised-none : (i first last y s r : ℕ) → i < 16 → first < 16 → y < 16 → s ≡ 0 → Supported i first last y s r → ahead i last y + 64 ≡ behind i first y + r
 raised-none i first last y s r l p q e w = ⊎-elim (λ z. absurd (omega (arith, w .over, behind-small i first y l p q))) (λ e. e) (w .one)
 
 module _ (i : ℕ) (l : i < 16) (row y first last : ℕ) (f : FirstIn row first) (g : LastIn row last) where
@@ -63,7 +63,7 @@ module _ (i : ℕ) (cells : List ℕ) where
     reached : (r : ℕ) → ahead i last y + 64 ≡ behind i first y + r → Attained i cells (y + 1) r
     reached r e = let t = row-topped i l _ y _ _ f g r e in record { x = t .x; y = y; cell = t .cell; before = omega arith; at = t .at }
 
-    pub topped-row : (s r : ℕ) → Topped i cells y s → Raised i first last y s r → Topped i cells (y + 1) r
+    pub topped-row : (s r : ℕ) → Topped i cells y s → Supported i first last y s r → Topped i cells (y + 1) r
     topped-row s r t w = record {
       all = λ u v h k. ⊎-elim
           (λ q. subst (λ (k : ℕ). ahead i u k + 64 ≤ behind i u k + r) (sym q)

@@ -29,7 +29,7 @@ pub record Greater (a b r : ℕ) : Type 0 where
   pub one : (r ≡ a) ⊎ (r ≡ b)
 
 -- r is the greater of s and the greatest value of direction i on row y, whose cells reach from column first to column last
-pub record Raised (i first last y s r : ℕ) : Type 0 where
+pub record Supported (i first last y s r : ℕ) : Type 0 where
   pub kept : s ≤ r
   pub over : ahead i last y + 64 ≤ behind i first y + r
   pub one : (r ≡ s) ⊎ (ahead i last y + 64 ≡ behind i first y + r)

@@ -62,10 +62,10 @@ fn within(a: [u16; 16], i: u32, j: usize, limit: u32) -> bool
     if (limit as usize) < j {
         return false;
     }
-    if limit - i < extents::last_column(a) {
+    if limit - i < extent_steps::last_column(a) {
         return false;
     }
-    extents::last_row(a) <= (limit as usize) - j
+    extent_steps::last_row(a) <= (limit as usize) - j
 }
 
 // The lesser of two numbers.
@@ -92,10 +92,10 @@ impl Shape {
         if !self.fits {
             return false;
         }
-        if extents::first_row(rows) != 0 {
+        if extent_steps::first_row(rows) != 0 {
             return false;
         }
-        if extents::first_column(rows) != 0 {
+        if extent_steps::first_column(rows) != 0 {
             return false;
         }
         within(rows, self.x, self.y as usize, 30)
@@ -156,7 +156,7 @@ impl Shape {
         Window {
             ax: above(15, self.x),
             ay: above(15, self.y),
-            rows: rows::raised(rows, above(self.x, 15), above(self.y, 15) as usize),
+            rows: row_steps::raised(rows, above(self.x, 15), above(self.y, 15) as usize),
         }
     }
 
@@ -173,16 +173,16 @@ impl Shape {
         if 15 < ay {
             return nothing();
         }
-        if extents::empty(rows) {
+        if extent_steps::empty(rows) {
             return nothing();
         }
-        let i = extents::first_column(rows);
-        let j = extents::first_row(rows);
+        let i = extent_steps::first_column(rows);
+        let j = extent_steps::first_row(rows);
         Shape {
             fits: true,
             x: i + 15 - ax,
             y: (j as u32) + 15 - ay,
-            rows: rows::lowered(rows, i, j),
+            rows: row_steps::lowered(rows, i, j),
         }
     }
 }
@@ -210,7 +210,7 @@ fn union(a: Shape, b: Shape) -> Shape
         fits: true,
         x: x,
         y: y,
-        rows: rows::joined(rows::raised(p, i, j), rows::raised(q, k, l)),
+        rows: row_steps::joined(row_steps::raised(p, i, j), row_steps::raised(q, k, l)),
     }
 }
 
@@ -229,10 +229,15 @@ fn sum(a: Shape, b: Shape) -> Shape
     if y < 15 {
         return nothing();
     }
-    if !within(p, extents::last_column(q), extents::last_row(q), 15) {
+    if !within(
+        p,
+        extent_steps::last_column(q),
+        extent_steps::last_row(q),
+        15,
+    ) {
         return nothing();
     }
-    let r = rows::sum_of(p, q);
+    let r = row_steps::sum_of(p, q);
     if !within(r, x - 15, (y - 15) as usize, 30) {
         return nothing();
     }

@@ -1,15 +1,15 @@
--- What spacing by 2 says of a set with a greatest number; and the cells 1 0 1 1 in a row, which no list of masks sums to.
+-- What spacing by 2 says of a set with a greatest number; the cells 1 0 1 1 in a row, which no list of masks sums to; and two rows of a face.
 use mathlib.Core.Path.{_≡_, refl, subst}
-use mathlib.Core.Logic.{⊎-elim}
+use mathlib.Core.Logic.{inl, ⊎-elim}
 use mathlib.Core.List.{List, [], _∷_}
 use Prim.Native.Nat.{ℕ, zero, suc, _+_, _%_, _≤_, _<_}
 use native.Mathlib.Omega.{arith}
 use Rattle.plane.proofs.Tests.{lt-or-le}
 use Rattle.rows.specs.Cells.{At, bit}
-use Rattle.rows.proofs.RowBits.{no-bit}
+use Rattle.rows.proofs.RowBits.{bit-in, no-bit}
 use Rattle.edges.specs.Edges.{plusX, plusY, minusX, minusY}
-use Rattle.faces.specs.Bits.{OnRow}
-use Rattle.faces.specs.Faces.{column, Shadow, Spaced, NeverSum}
+use Rattle.faces.specs.Bits.{Bits, OnRow}
+use Rattle.faces.specs.Faces.{column, Shadow, Spaced, onlyOf, Fair, NeverSum}
 use Rattle.faces.proofs.Shadows.{no-columns}
 
 -- the numbers of a set below n that is spaced by 2 are all even or all odd
@@ -53,3 +53,11 @@ no-sum = no-columns (At cells) 4 (⊎-elim
 first-on-row : OnRow 0 cells 64 0
 unfolding plusX plusY minusX minusY
 first-on-row = record { x = 0; cell = refl; at = refl }
+
+-- a face in the direction (1, 2) can have the rows 0 and 1, as that of the cells (2, 0) and (0, 1)
+next-rows : Fair (onlyOf 3) (Bits 3)
+unfolding onlyOf
+next-rows = inl (
+  λ e. omega arith,
+  record { next = λ a b p q l. let z : 0 ≡ a = omega (arith, bit-in 2 3 b (omega arith) q) in subst (λ (k : ℕ). bit 3 (k + 1) ≡ 1) z refl },
+)

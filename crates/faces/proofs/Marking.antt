@@ -18,7 +18,7 @@ use Rattle.edges.proofs.Adding.{top-once}
 use Rattle.rows.proofs.Addition.{same-refl}
 use Rattle.faces.specs.Faces.{row, column, Shadow, Fair}
 use Rattle.faces.proofs.Shadows.{fair-same}
-use Rattle.faces.specs.Bits.{Bits, Shown, Mark, Marked, OnRow, RowsTo, RowAt}
+use Rattle.faces.specs.Bits.{Bits, Indicated, Mark, Marked, OnRow, RowsTo, RowAt}
 
 -- ---- one bit
 -- a word with a bit is not 0
@@ -72,7 +72,7 @@ module _ (i : ℕ) (cells : List ℕ) (s : ℕ) where
       same : OnRow i cells s n → s ≡ v
       same o = omega (arith, o .at, a .all (o .x) (o .cell), a .at, t .all (a .x) n (a .cell) l)
 
-  pub rows-done : Rows16 cells → i < 16 → Topped i cells 16 s → (b : ℕ) → RowsTo i cells s 16 b → Shown (Shadow row i (At cells)) b
+  pub rows-done : Rows16 cells → i < 16 → Topped i cells 16 s → (b : ℕ) → RowsTo i cells s 16 b → Indicated (Shadow row i (At cells)) b
   rows-done z l t b w = record {
     to = λ y h. let o = w .to y h in
         record {
@@ -106,7 +106,7 @@ pub level-12 : Level 12
 unfolding plusX plusY minusX minusY
 level-12 = record { along = λ x u y. (omega arith, omega arith); once = λ x y u v e. omega arith }
 
-module _ (i : ℕ) (h : Level i) (cells : List ℕ) (b r : ℕ) (w : Shown (Shadow row i (At cells)) b) (a : RowAt cells b r) where
+module _ (i : ℕ) (h : Level i) (cells : List ℕ) (b r : ℕ) (w : Indicated (Shadow row i (At cells)) b) (a : RowAt cells b r) where
   -- b has one number, and r is that row
   at-row : (y : ℕ) → Shadow row i (At cells) y → r ≡ getD cells y 0
   at-row y s = let p = a .some (some-bit b y (w .from y s)) in
@@ -114,7 +114,7 @@ module _ (i : ℕ) (h : Level i) (cells : List ℕ) (b r : ℕ) (w : Shown (Shad
       let e : p .0 ≡ y = omega (arith, h .once _ _ _ _ (top-once i same-refl (t .top) (s .top)), t .at, s .at) in
       p .1 .1 ∙ ap (λ (k : ℕ). getD cells k 0) e
 
-  pub columns-shown : Shown (Shadow column i (At cells)) r
+  pub columns-shown : Indicated (Shadow column i (At cells)) r
   columns-shown = record {
     to = λ k g.
         let p = a .some (⊎-elim (λ z. absurd (no-bit k (ap (λ (n : ℕ). bit n k) (sym (a .none (omega arith))) ∙ g))) (λ z. z) (lt-or-le b 1)) in
@@ -132,8 +132,8 @@ module _ (i : ℕ) (h : Level i) (cells : List ℕ) (b r : ℕ) (w : Shown (Shad
       moved x y t k g = record { cell = g; above = λ u v q. let e = h .along x k y in omega (arith, t .above u v q) }
 
 -- ---- a set and its word are spaced alike
-pub into-bits : {S : ℕ → Type 0} {b only : ℕ} → Shown S b → Fair only S → Fair only (Bits b)
+pub into-bits : {S : ℕ → Type 0} {b only : ℕ} → Indicated S b → Fair only S → Fair only (Bits b)
 into-bits w = fair-same (w .from) (w .to)
 
-pub out-of-bits : {S : ℕ → Type 0} {b only : ℕ} → Shown S b → Fair only (Bits b) → Fair only S
+pub out-of-bits : {S : ℕ → Type 0} {b only : ℕ} → Indicated S b → Fair only (Bits b) → Fair only S
 out-of-bits w = fair-same (w .to) (w .from)

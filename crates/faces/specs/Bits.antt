@@ -14,7 +14,7 @@ abbrev pub Bits : ℕ → ℕ → Type 0
 Bits b k = bit b k ≡ 1
 
 -- b has the numbers of S
-pub record Shown (S : ℕ → Type 0) (b : ℕ) : Type 0 where
+pub record Indicated (S : ℕ → Type 0) (b : ℕ) : Type 0 where
   pub to : (k : ℕ) → bit b k ≡ 1 → S k
   pub from : (k : ℕ) → S k → bit b k ≡ 1
 

@@ -9,8 +9,8 @@ use Rattle.planning.specs.Printer.{unreadableLine, Reads, PrintedFor}
 use Rattle.planning.proofs.Once.{reads-once}
 use Rattle.text.specs.Page.{Holds}
 use Rattle.text.specs.Reader.{Held}
-use Rattle.text.specs.declared.page.Page.{Page}
-use Rattle.text.specs.declared.read.Reading.{Reading}
+use Rattle.text.specs.declared.Page.{Page}
+use Rattle.text.specs.declared.Reading.{Reading}
 use Rattle.text.proofs.Pages.{page-text}
 use Rattle.text.proofs.Readings.{bad-unread, begun-unread, all-read}
 use Rattle.printer.specs.Answers.{Answers}

@@ -12,7 +12,7 @@ use Rattle.words.specs.declared.Answer.{Answer}
 use Rattle.words.specs.declared.Answer.the-variants.{Done, Refused}
 use Rattle.planning.specs.Printer.{wordLines, refusedLine, shown}
 use Rattle.text.specs.Page.{Holds}
-use Rattle.text.specs.declared.page.Page.{Page}
+use Rattle.text.specs.declared.Page.{Page}
 use Rattle.text.proofs.Pages.{page-text}
 use Rattle.printer.specs.Answers.{Shows}
 

@@ -6,7 +6,7 @@ use Rattle.words.specs.Ground.{stated}
 use Rattle.words.specs.declared.Answer.{Answer}
 use Rattle.planning.specs.Printer.{shown, Printed}
 use Rattle.text.specs.Reader.{Held}
-use Rattle.text.specs.declared.read.Reading.{Reading}
+use Rattle.text.specs.declared.Reading.{Reading}
 
 -- the output is what is shown of an answer and the output list of 32 words that it left
 pub record Shows (answer : Answer) (out output : List ℕ) : Type 0 where

@@ -18,11 +18,11 @@ fn shown(answer: Answer, out: [u32; 32]) -> Page
         Answer::Done(n) => {
             let k = n as usize;
             if 32 < k {
-                return text::words_page(&out);
+                return page_steps::words_page(&out);
             }
-            text::words_page(&out[..k])
+            page_steps::words_page(&out[..k])
         }
-        Answer::Refused(g) => text::refused_page(words::number(g)),
+        Answer::Refused(g) => page_steps::refused_page(words::number(g)),
     }
 }
 
@@ -44,15 +44,15 @@ pub fn page(s: Reading) -> Page
     ensures past { λ r. ⌜ Blank r ⌝ }
 {
     if s.bad {
-        return text::unreadable_page();
+        return page_steps::unreadable_page();
     }
     if 0 < s.digits {
-        return text::unreadable_page();
+        return page_steps::unreadable_page();
     }
     let words = s.words;
     let count = s.count;
     if 18 < count {
-        return text::unreadable_page();
+        return page_steps::unreadable_page();
     }
     planned(&words[..count])
 }
@@ -63,5 +63,5 @@ pub fn printed(input: &[u8]) -> Page
     ensures room { λ r. ⌜ r .n ≤ 288 ⌝ }
     ensures past { λ r. ⌜ Blank r ⌝ }
 {
-    page(text::read_some(text::nothing(), input))
+    page(line_steps::read_some(line_steps::nothing(), input))
 }

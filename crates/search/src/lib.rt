@@ -194,7 +194,7 @@ fn deepening(cells: [u16; 16], w: usize, h: usize) -> Chosen
     let n = d.n;
     let mut nums = [0u8; 9216];
     marks::tabled(&marked, &mut nums);
-    let need = edges::numbers(cells, 16);
+    let need = edge_steps::numbers(cells, 16);
     if !completions::may_sum(cells, need, &nums, &list[0..n], w + h) {
         return Chosen {
             found: false,
@@ -215,13 +215,13 @@ pub fn shortest(cells: [u16; 16]) -> Chosen
         n: 0,
         masks: [0; 32],
     };
-    if extents::empty(cells) {
+    if extent_steps::empty(cells) {
         return none;
     }
-    if !faces::may_be_sum(cells) {
+    if !face_steps::may_be_sum(cells) {
         return none;
     }
-    let w = extents::last_column(cells) as usize;
-    let h = extents::last_row(cells);
+    let w = extent_steps::last_column(cells) as usize;
+    let h = extent_steps::last_row(cells);
     deepening(cells, w, h)
 }

@@ -1,5 +1,4 @@
 // What the search starts with: which masks can be in a list that sums to the cells at all, the same as a list, and a table of their numbers.
-use rows::by_mask;
 ghost use mathlib.Core.Path.{_≡_};
 ghost use Prim.Native.Nat.{_+_, _<_};
 ghost use lib.ListN.{length};
@@ -15,9 +14,9 @@ fn mark(cells: [u16; 16], m: u16) -> u8
     if !stages::is_stage(m as u32) {
         return 0;
     }
-    let t = by_mask::shrunk(cells, m);
-    let whole = by_mask::grown(t, m);
-    if rows::same(cells, whole) { 1 } else { 0 }
+    let t = mask_steps::shrunk(cells, m);
+    let whole = mask_steps::grown(t, m);
+    if row_steps::same(cells, whole) { 1 } else { 0 }
 }
 
 // The marks of all masks.
@@ -78,7 +77,7 @@ fn entered(marks: &[u8], table: &mut [u8], m: u16)
     if marks[m as usize] != 1 {
         return;
     }
-    let numbers = edges::numbers(rows::mask_rows(m), 3);
+    let numbers = edge_steps::numbers(row_steps::mask_rows(m), 3);
     store(table, m as usize, numbers);
 }
 

@@ -24,7 +24,7 @@ fn read_once(s: Reading) -> Input {
         };
     }
     let n = io::count(got, &buf);
-    let next = text::read_some(s, &buf[..n]);
+    let next = line_steps::read_some(s, &buf[..n]);
     Input {
         reading: next,
         more: got > 0,
@@ -35,7 +35,7 @@ fn read_once(s: Reading) -> Input {
 // Reads to the end of the input, or to a read that fails. A proved loop has to end, so this one counts its turns down, from a number that no run uses up.
 fn read_all() -> Input {
     let mut input = Input {
-        reading: text::nothing(),
+        reading: line_steps::nothing(),
         more: true,
         failed: false,
     };
@@ -63,7 +63,7 @@ fn write(p: text::Page)
 fn main() {
     let input = read_all();
     if input.failed {
-        write(text::unreadable_page());
+        write(page_steps::unreadable_page());
         return;
     }
     write(printer::page(input.reading));

@@ -15,8 +15,8 @@ use words::Ground;
 pub fn read_shape(ws: &[u32]) -> Shape
     ensures { λ r. ⌜ Made (SomeHeld (now (ws .entry))) (heldPoints (now (ws .entry))) r ⌝ }
 {
-    let anchor = lists::read_anchor(ws);
-    let rows = lists::read_rows(ws);
+    let anchor = list_steps::read_anchor(ws);
+    let rows = list_steps::read_rows(ws);
     let cells = Window {
         ax: anchor.x,
         ay: anchor.y,
@@ -30,8 +30,8 @@ fn read_plan(ws: &[u32]) -> Shape
     requires { ⌜ firstOf (planTests (now ws)) ≡ 0 ⌝ }
     ensures { λ r. ⌜ StandsFor (planPoints (now (ws .entry))) r ⌝ }
 {
-    let place = lists::read_place(ws);
-    let rows = lists::plan_rows(ws);
+    let place = list_steps::read_place(ws);
+    let rows = list_steps::plan_rows(ws);
     Shape {
         fits: true,
         x: place.x,
@@ -50,7 +50,7 @@ fn write_shape(s: Shape, out: &mut [u32]) -> Answer
     }
     let cells = s.window();
     let rows = cells.rows;
-    let n = lists::write_list(cells.ax, cells.ay, rows, out);
+    let n = word_steps::write_list(cells.ax, cells.ay, rows, out);
     if n == 0 {
         return Answer::Refused(Ground::OutputLength);
     }

@@ -8,8 +8,8 @@ use lib.ListN.{take, replicate}
 use Rattle.planning.specs.Printer.{wordLines, refusedLine, Reads}
 use Rattle.text.specs.Page.{Holds}
 use Rattle.text.specs.Reader.{lowest, Begun, Held}
-use Rattle.text.specs.declared.page.Page.{Page}
-use Rattle.text.specs.declared.read.Reading.{Reading}
+use Rattle.text.specs.declared.Page.{Page}
+use Rattle.text.specs.declared.Reading.{Reading}
 use Rattle.text.proofs.Lines.{next-byte, digit-none}
 
 -- the digits of 2009abe, a line begun

@@ -10,7 +10,7 @@ use lib.ListN.{length, take, drop, set, getD, replicate, length-append}
 use lib.Seq.{set-append-seam, append-snoc, take-append-seam, drop-append-seam, take-suc, take-all, length-take-le}
 use Rattle.planning.specs.Printer.{digit, wordLine, wordLines, refusedLine}
 use Rattle.text.specs.Page.{Holds, Blank, Added}
-use Rattle.text.specs.declared.page.Page.{Page}
+use Rattle.text.specs.declared.Page.{Page}
 use Rattle.text.proofs.Lines.{line-length, lines-append, lines-one, lines-length}
 
 -- the text of a page is its first n bytes

@@ -13,8 +13,8 @@ use lib.Seq.{take-all, take-append-le, take-suc}
 use Rattle.plane.specs.Lists.{all}
 use Rattle.plane.proofs.Tests.{T-and, T-dec}
 use Rattle.planning.specs.Printer.{digit, wordLines, Reads}
-use Rattle.text.specs.Reader.{lowest, Begun, Held, Further, Kept}
-use Rattle.text.specs.declared.read.Reading.{Reading}
+use Rattle.text.specs.Reader.{lowest, Begun, Held, Further, Updated}
+use Rattle.text.specs.declared.Reading.{Reading}
 use Rattle.text.proofs.Lines.{Next, lowest-more, line-lowest, lines-append, lines-one, lines-rest, next-byte, no-line}
 
 -- bad and good at once
@@ -161,7 +161,7 @@ kept-more ls v h =
     let n = length-append ls (v ∷ []) in
     take-all 18 (ls ++ v ∷ []) (omega arith) ∙ ap (λ l. l ++ v ∷ []) (sym (take-all 18 ls (omega arith)))
 
-kept-next : (ls ws : List ℕ) (n v : ℕ) (r : List ℕ) → n ≡ min 18 (length ls) → take n ws ≡ take 18 ls → Kept ws n v r → take (min 18 (n + 1)) r ≡ take 18 (ls ++ v ∷ [])
+kept-next : (ls ws : List ℕ) (n v : ℕ) (r : List ℕ) → n ≡ min 18 (length ls) → take n ws ≡ take 18 ls → Updated ws n v r → take (min 18 (n + 1)) r ≡ take 18 (ls ++ v ∷ [])
 kept-next ls ws n v r c k K = ⊎-elim room full (T-dec (ltb n 18))
   where
     room : T (ltb n 18) → take (min 18 (n + 1)) r ≡ take 18 (ls ++ v ∷ [])
@@ -178,7 +178,7 @@ kept-next ls ws n v r c k K = ⊎-elim room full (T-dec (ltb n 18))
 
 -- after eight digits the word is read, and kept if it is one of the first 18
 pub ends-line : (s r : Reading) → r .bad ≡ s .bad → s .digits ≡ 8 → r .digits ≡ 0 → r .value ≡ 0 → r .count ≡ min 18 (s .count + 1)
-    → Kept (s .words) (s .count) (s .value) (r .words) → Further s (10 ∷ []) r
+    → Updated (s .words) (s .count) (s .value) (r .words) → Further s (10 ∷ []) r
 unfolding lowest
 ends-line s r f h ed ev ec K =
     carries s r (10 ∷ []) f (λ e. record { held = λ seen H. record { bad = λ g. both (r .bad) g (f ∙ e); good = λ _. ended seen (H .good e) } })

@@ -3,7 +3,7 @@ use mathlib.Core.Path.{_≡_}
 use mathlib.Core.List.{List, _++_}
 use Prim.Native.Nat.{ℕ, _+_, _-_, _≤_}
 use lib.ListN.{length, drop, replicate}
-use Rattle.text.specs.declared.page.Page.{Page}
+use Rattle.text.specs.declared.Page.{Page}
 
 -- the page holds the text, and past it zeros
 pub record Holds (text : List ℕ) (p : Page) : Type 0 where

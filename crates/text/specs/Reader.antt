@@ -8,7 +8,7 @@ use lib.Dec.{T, ltb}
 use lib.ListN.{length, take}
 use Rattle.plane.specs.Lists.{all}
 use Rattle.planning.specs.Printer.{digit, wordLines, Reads}
-use Rattle.text.specs.declared.read.Reading.{Reading}
+use Rattle.text.specs.declared.Reading.{Reading}
 
 -- the k lowest hexadecimal digits of v, the highest first
 unfoldable pub lowest : ℕ → ℕ → List ℕ
@@ -35,7 +35,7 @@ pub record Further (s : Reading) (more : List ℕ) (r : Reading) : Type 0 where
   pub held : (seen : List ℕ) → Held seen s → Held (seen ++ more) r
 
 -- r is the 18 words ws with v at place i; the same words where there is no such place
-pub record Kept (ws : List ℕ) (i v : ℕ) (r : List ℕ) : Type 0 where
+pub record Updated (ws : List ℕ) (i v : ℕ) (r : List ℕ) : Type 0 where
   pub put : i < 18 → take (i + 1) r ≡ take i ws ++ v ∷ []
   pub full : 18 ≤ i → r ≡ ws
 

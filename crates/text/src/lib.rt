@@ -1,11 +1,17 @@
-// Text of the program `shapeplan`, on slices and values: reading lines of words (read.rt) and the pages that it prints (page.rt). No input, no output, no planning.
-mod page;
-mod read;
+// Text of the program `shapeplan`: what has been read of lines of words, and a page of lines. What they stand for is in specs/; lines are read in the crate
+// line_steps, and pages made in page_steps. No input, no output, no planning.
 
-pub use page::Page;
-pub use page::refused_page;
-pub use page::unreadable_page;
-pub use page::words_page;
-pub use read::Reading;
-pub use read::nothing;
-pub use read::read_some;
+// What has been read: whether some line was bad; how many words, counted to 18, and the words; the digits of the line begun and their value.
+pub struct Reading {
+    pub bad: bool,
+    pub count: usize,
+    pub words: [u32; 18],
+    pub digits: u32,
+    pub value: u32,
+}
+
+// A page: the text is the first n bytes; 288 is room for 32 lines of nine.
+pub struct Page {
+    pub n: usize,
+    pub bytes: [u8; 288],
+}
