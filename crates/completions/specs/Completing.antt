@@ -10,6 +10,8 @@ use lib.ListN.{length, getD}
 use Rattle.plane.specs.Lists.{In}
 use Rattle.edges.specs.Edges.{summed}
 use Rattle.rows.specs.Cells.{Cells, Same, Sum, Residue, At, AtMask, AtOrigin, AtSum, chosen}
+use Rattle.completions.specs.declared.Here.{Here}
+use Rattle.completions.specs.declared.Child.{Child}
 
 -- the masks L, each permitted, complete Y to A
 pub record Fills (permitted : ℕ → Bool) (A Y : Cells) (L : List ℕ) : Type 0 where
@@ -72,20 +74,33 @@ pub record Masks (permitted : ℕ → Bool) (nums : List ℕ) : Type 0 where
   pub spans : (m : ℕ) → T (permitted m) → Spans (AtMask m) (numberIn nums 16 m) (numberIn nums 17 m)
   pub some : (m : ℕ) → T (permitted m) → 1 ≤ numberIn nums 16 m + numberIn nums 17 m
 
+-- the target of a state, and its partial sum
+abbrev pub aimOf : Here → Cells
+aimOf here = At (here .target)
+
+abbrev pub sumOf : Here → Cells
+sumOf here = AtSum (chosen (here .path) (here .len))
+
+-- the width and the height that are needed, together
+abbrev pub extentsOf : Here → ℕ
+extentsOf here = getD (here .need) 16 0 + getD (here .need) 17 0
+
 -- what a state keeps: the path has the masks of the partial sum, rest its residue, and need the numbers that are needed
-pub record Ready (permitted : ℕ → Bool) (nums target rest path : List ℕ) (len : ℕ) (need : List ℕ) : Type 0 where
+pub record Ready (permitted : ℕ → Bool) (nums : List ℕ) (here : Here) : Type 0 where
   pub known : Masks permitted nums
-  pub way : (m : ℕ) → In (chosen path len) m → T (permitted m)
-  pub state : Open permitted (numberIn nums) (At target) (AtSum (chosen path len)) (At rest) need
+  pub state : Open permitted (numberIn nums) (aimOf here) (sumOf here) (At (here .rest)) (here .need)
+
+-- where r is a state, it is the state below by the mask m
+pub record Below (nums : List ℕ) (here : Here) (m : ℕ) (r : Child) : Type 0 where
+  pub same : r .ok ≡ true → r .here .target ≡ here .target
+  pub longer : r .ok ≡ true → (chosen (r .here .path) (r .here .len) ≡ m ∷ chosen (here .path) (here .len)) × (r .here .len ≡ here .len + 1)
+  pub falls : r .ok ≡ true → extentsOf (r .here) < extentsOf here
+  pub ready : r .ok ≡ true → (permitted : ℕ → Bool) → Ready permitted nums here → T (permitted m) → Ready permitted nums (r .here)
 
 -- the state below by the mask m, or that nothing completes the sum with m
-pub record Stepped (nums target rest path : List ℕ) (len : ℕ) (need : List ℕ) (m : ℕ) (ok : Bool) (target′ rest′ path′ : List ℕ) (len′ : ℕ) (need′ : List ℕ) : Type 0 where
-  pub same : ok ≡ true → target′ ≡ target
-  pub longer : ok ≡ true → (chosen path′ len′ ≡ m ∷ chosen path len) × (len′ ≡ len + 1)
-  pub falls : ok ≡ true → getD need′ 16 0 + getD need′ 17 0 < getD need 16 0 + getD need 17 0
-  pub ready : ok ≡ true → (permitted : ℕ → Bool) → Ready permitted nums target rest path len need → T (permitted m) → Ready permitted nums target′ rest′ path′ len′ need′
-  pub no : ok ≡ false → (permitted : ℕ → Bool) → Ready permitted nums target rest path len need → T (permitted m) → (L : List ℕ)
-      → Fills permitted (At target) (Sum (AtSum (chosen path len)) (AtMask m)) L → ⊥
+pub record Stepped (nums : List ℕ) (here : Here) (m : ℕ) (r : Child) : Type 0 where
+  pub below : Below nums here m r
+  pub no : r .ok ≡ false → (permitted : ℕ → Bool) → Ready permitted nums here → T (permitted m) → (L : List ℕ) → Fills permitted (aimOf here) (Sum (sumOf here) (AtMask m)) L → ⊥
 
 -- of xs, those of the first n that fit what is needed are among the first n′ of xs′
 pub record Fitting (nums need xs : List ℕ) (n : ℕ) (xs′ : List ℕ) (n′ : ℕ) : Type 0 where
@@ -115,13 +130,13 @@ abbrev pub Allowed : (ℕ → Bool) → List ℕ → Type 0
 Allowed permitted xs = (m : ℕ) → Among xs (length xs) m → T (permitted m)
 
 -- nothing completes the sum of a state with k masks of a list or fewer
-pub record NoneHere (nums target rest path : List ℕ) (len : ℕ) (need cand : List ℕ) (k : ℕ) : Type 0 where
-  pub no : (permitted : ℕ → Bool) → Ready permitted nums target rest path len need → Allowed permitted cand → None permitted (At target) (AtSum (chosen path len)) cand (length cand) k
+pub record NoneHere (nums : List ℕ) (here : Here) (cand : List ℕ) (k : ℕ) : Type 0 where
+  pub no : (permitted : ℕ → Bool) → Ready permitted nums here → Allowed permitted cand → None permitted (aimOf here) (sumOf here) cand (length cand) k
 
 -- nor with the mask before r among them, where those from r on were tried
-pub record NoneBefore (nums target rest path : List ℕ) (len : ℕ) (need list : List ℕ) (r k : ℕ) : Type 0 where
-  pub no : (permitted : ℕ → Bool) → Ready permitted nums target rest path len need → Allowed permitted list → Tried permitted (At target) (AtSum (chosen path len)) list (length list) r k
-      → (j : ℕ) → suc j ≡ r → NoneWith permitted (At target) (AtSum (chosen path len)) list r k (getD list j 0)
+pub record NoneBefore (nums : List ℕ) (here : Here) (list : List ℕ) (r k : ℕ) : Type 0 where
+  pub no : (permitted : ℕ → Bool) → Ready permitted nums here → Allowed permitted list → Tried permitted (aimOf here) (sumOf here) list (length list) r k
+      → (j : ℕ) → suc j ≡ r → NoneWith permitted (aimOf here) (sumOf here) list r k (getD list j 0)
 
 -- ---- sums and residues by a mask
 

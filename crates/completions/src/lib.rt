@@ -5,8 +5,6 @@ mod numbers;
 mod pools;
 mod steps;
 
-pub use steps::Child;
-pub use steps::Here;
 pub use steps::finished;
 ghost use mathlib.Core.Path.{_≡_};
 ghost use mathlib.Core.Bool.{true, false};
@@ -15,11 +13,26 @@ ghost use lib.ListN.{length};
 ghost use Rattle.completions.specs.Completing.{NoneHere, NoneBefore, NoSum};
 ghost use Rattle.completions.specs.Opening.{Opened};
 
+// A partial sum: the target, the residue target ⊖ sum, the masks of the sum, and the numbers that are needed still.
+pub struct Here {
+    pub target: [u16; 16],
+    pub rest: [u16; 16],
+    pub path: [u16; 32],
+    pub len: usize,
+    pub need: [u8; 18],
+}
+
+// The partial sum below, or none.
+pub struct Child {
+    pub ok: bool,
+    pub here: Here,
+}
+
 // Whether k masks of the list or fewer may complete the sum; false says that none do. Some number is needed still: the masks that have it are tried, from the
 // last, each over the list up to it, since what completes the sum has it or has it not.
 fn node(here: Here, nums: &[u8], cand: &[u16], k: usize) -> bool
     requires { ⌜ ((here .len + k) ≤ 32) × ((length (now nums) ≡ 9216) × (length (now cand) ≤ 512)) ⌝ }
-    ensures { λ r. ⌜ (r ≡ false → NoneHere (now (nums .entry)) (here .target) (here .rest) (here .path) (here .len) (here .need) (now (cand .entry)) k) ⌝ }
+    ensures { λ r. ⌜ (r ≡ false → NoneHere (now (nums .entry)) here (now (cand .entry)) k) ⌝ }
 {
     let need = here.need;
     let w = need[16] as usize;
@@ -57,7 +70,7 @@ fn node(here: Here, nums: &[u8], cand: &[u16], k: usize) -> bool
 // The same with the mask before r among them, over the list up to it, where those from r on were tried.
 fn stage(here: Here, nums: &[u8], list: &[u16], r: usize, k: usize) -> bool
     requires { ⌜ (0 < k) × (((here .len + k) ≤ 32) × ((length (now nums) ≡ 9216) × ((0 < r) × ((r ≤ length (now list)) × (length (now list) ≤ 512))))) ⌝ }
-    ensures { λ b. ⌜ (b ≡ false → NoneBefore (now (nums .entry)) (here .target) (here .rest) (here .path) (here .len) (here .need) (now (list .entry)) r k) ⌝ }
+    ensures { λ b. ⌜ (b ≡ false → NoneBefore (now (nums .entry)) here (now (list .entry)) r k) ⌝ }
 {
     let m = list[r - 1];
     let t = here.rest;
@@ -115,7 +128,7 @@ fn roomy(n: usize, c: usize, len: usize, k: usize) -> bool
 
 // The partial sum below by the mask m, where k masks of the list or fewer may complete it.
 pub fn opened(here: Here, nums: &[u8], cand: &[u16], m: u16, k: usize) -> Child
-    ensures { λ r. ⌜ Opened (now (nums .entry)) (now (cand .entry)) (here .target) (here .rest) (here .path) (here .len) (here .need) m k (r .ok) (r .here .target) (r .here .rest) (r .here .path) (r .here .len) (r .here .need) ⌝ }
+    ensures { λ r. ⌜ Opened (now (nums .entry)) (now (cand .entry)) here m k r ⌝ }
 {
     let none = Child {
         ok: false,

@@ -1,4 +1,6 @@
 // A partial sum and the one below it by a mask, or that the mask is passed over; which masks are in the place of others.
+use super::Child;
+use super::Here;
 use super::numbers;
 use rows::by_mask;
 ghost use mathlib.Core.Path.{_≡_};
@@ -8,21 +10,6 @@ ghost use lib.ListN.{length, getD};
 ghost use Rattle.rows.specs.Cells.{Sum, Residue, At, AtMask, AtSum, CutTo, chosen};
 ghost use Rattle.completions.specs.Completing.{Differs, Replaces, Spans, Unmet, Stepped};
 ghost use Rattle.completions.specs.Opening.{Finished};
-
-// A partial sum: the target, the residue target ⊖ sum, the masks of the sum, and the numbers that are needed still.
-pub struct Here {
-    pub target: [u16; 16],
-    pub rest: [u16; 16],
-    pub path: [u16; 32],
-    pub len: usize,
-    pub need: [u8; 18],
-}
-
-// The partial sum below, or none.
-pub struct Child {
-    pub ok: bool,
-    pub here: Here,
-}
 
 // Whether the cells of t have one in column 0 and one in column w, one in row 0 and one in row h.
 fn spans(t: [u16; 16], w: u8, h: u8) -> bool
@@ -99,7 +86,7 @@ fn covers(
 
 // Whether the masks of the path sum to the target. Where the residue has the cell (0, 0) their sum lies in the target, so that the window has all of it.
 pub fn finished(here: Here) -> bool
-    ensures { λ r. ⌜ Finished (here .target) (here .rest) (here .path) (here .len) r ⌝ }
+    ensures { λ r. ⌜ Finished here r ⌝ }
 {
     let len = here.len;
     if 32 < len {
@@ -120,7 +107,7 @@ pub fn finished(here: Here) -> bool
 // the extents that are needed then, or where the target differs from (target ⊖ sum) ⊕ sum.
 pub(crate) fn step(here: Here, nums: &[u8], m: u16) -> Child
     requires { ⌜ (here .len < 32) × (length (now nums) ≡ 9216) ⌝ }
-    ensures { λ r. ⌜ Stepped (now (nums .entry)) (here .target) (here .rest) (here .path) (here .len) (here .need) m (r .ok) (r .here .target) (r .here .rest) (r .here .path) (r .here .len) (r .here .need) ⌝ }
+    ensures { λ r. ⌜ Stepped (now (nums .entry)) here m r ⌝ }
 {
     let none = Child {
         ok: false,

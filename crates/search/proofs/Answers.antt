@@ -18,7 +18,9 @@ use Rattle.masks.proofs.Cells.{stage-below}
 use Rattle.rows.specs.Cells.{Cells, Same, Sum, At, AtMask, AtSum, chosen}
 use Rattle.search.specs.Tree.{Completes, Answer, NoneWith, Passed}
 use Rattle.search.specs.Asking.{Led}
-use Rattle.completions.specs.Completing.{Among, Ready, Allowed}
+use Rattle.completions.specs.declared.Here.{Here}
+use Rattle.completions.specs.declared.Child.{Child}
+use Rattle.completions.specs.Completing.{Among, aimOf, sumOf, Ready, Allowed}
 use Rattle.completions.specs.Opening.{Room}
 use Rattle.rows.proofs.Chosen.{chosen-set}
 use Rattle.rows.proofs.Addition.{same-refl, same-sym, same-trans, sum-both, sum-comm, sum-assoc, sum-origin}
@@ -153,24 +155,23 @@ module _ (permitted : ℕ → Bool) where
           }
 
 -- what the partial sum below says of that above it
-module _ (permitted : ℕ → Bool) (nums cand target rest path : List ℕ) (len : ℕ) (need : List ℕ) (k m : ℕ) (ok : Bool) (target′ rest′ path′ : List ℕ) (len′ : ℕ) (need′ : List ℕ)
-    (b : Led nums cand target rest path len need (k - 1) m ok target′ rest′ path′ len′ need′) where
+module _ (permitted : ℕ → Bool) (nums cand : List ℕ) (here : Here) (k m : ℕ) (r : Child) (b : Led nums cand here (k - 1) m r) where
   abbrev Y : Cells
-  Y = AtSum (chosen path len)
+  Y = sumOf here
 
   -- no list has m first
-  pub below-none : ok ≡ false → Room nums cand len (k - 1) → Ready permitted nums target rest path len need → Allowed permitted cand → ((s : ℕ) → T (permitted s) → Among cand (length cand) s)
-      → T (permitted m) → NoneWith permitted (At target) Y k m
-  below-none e room r a every pm ns l c = b .no e room permitted r a every pm ns l (c .stages) (c .sum)
+  pub below-none : r .ok ≡ false → Room nums cand (here .len) (k - 1) → Ready permitted nums here → Allowed permitted cand → ((s : ℕ) → T (permitted s) → Among cand (length cand) s)
+      → T (permitted m) → NoneWith permitted (aimOf here) Y k m
+  below-none e room s a every pm ns l c = b .no e room permitted s a every pm ns l (c .stages) (c .sum)
 
-  module _ (e : ok ≡ true) (p : 0 < k) (pm : T (permitted m)) (found : Bool) (masks : List ℕ) (a : Answer permitted (At target′) (AtSum (chosen path′ len′)) (k - 1) m found masks) where
-    here : Answer permitted (At target) (Sum (AtMask m) Y) (k - 1) m found masks
-    here = subst (λ (ms : List ℕ). Answer permitted (At target) (AtSum ms) (k - 1) m found masks) (b .longer e .0)
-        (subst (λ (l : List ℕ). Answer permitted (At l) (AtSum (chosen path′ len′)) (k - 1) m found masks) (b .same e) a)
+  module _ (e : r .ok ≡ true) (p : 0 < k) (pm : T (permitted m)) (found : Bool) (masks : List ℕ) (a : Answer permitted (aimOf (r .here)) (sumOf (r .here)) (k - 1) m found masks) where
+    above : Answer permitted (aimOf here) (Sum (AtMask m) Y) (k - 1) m found masks
+    above = subst (λ (ms : List ℕ). Answer permitted (aimOf here) (AtSum ms) (k - 1) m found masks) (b .below .longer e .0)
+        (subst (λ (l : List ℕ). Answer permitted (At l) (sumOf (r .here)) (k - 1) m found masks) (b .below .same e) a)
 
-    pub below-closed : found ≡ false → NoneWith permitted (At target) Y k m
-    below-closed f = none-with permitted (At target) Y k m p pm (Sum (AtMask m) Y) sum-comm masks (subst (λ (d : Bool). Answer permitted (At target) (Sum (AtMask m) Y) (k - 1) m d masks) f here)
+    pub below-closed : found ≡ false → NoneWith permitted (aimOf here) Y k m
+    below-closed f = none-with permitted (aimOf here) Y k m p pm (Sum (AtMask m) Y) sum-comm masks (subst (λ (d : Bool). Answer permitted (aimOf here) (Sum (AtMask m) Y) (k - 1) m d masks) f above)
 
-    pub below-found : found ≡ true → k ≤ length masks → Answer permitted (At target) Y k m true (set masks (k - 1) m)
+    pub below-found : found ≡ true → k ≤ length masks → Answer permitted (aimOf here) Y k m true (set masks (k - 1) m)
     below-found f room =
-        put-first permitted (At target) Y k m p pm (Sum (AtMask m) Y) sum-comm masks room (subst (λ (d : Bool). Answer permitted (At target) (Sum (AtMask m) Y) (k - 1) m d masks) f here)
+        put-first permitted (aimOf here) Y k m p pm (Sum (AtMask m) Y) sum-comm masks room (subst (λ (d : Bool). Answer permitted (aimOf here) (Sum (AtMask m) Y) (k - 1) m d masks) f above)

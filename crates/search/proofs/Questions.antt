@@ -140,9 +140,9 @@ module _ (marks cells need nums cand : List ℕ) (q : Questioned marks cells nee
   }
 
 -- what the search starts from
-pub start-kept : (marks cells need nums cand : List ℕ) → Questioned marks cells need nums cand → (k : ℕ) (path : List ℕ) → k ≤ 30 → Kept marks nums cand cells cells path 0 need k
+pub start-kept : (marks cells need nums cand : List ℕ) → Questioned marks cells need nums cand → (k : ℕ) (path : List ℕ) → k ≤ 30 → Kept marks nums cand (record { target = cells; rest = cells; path = path; len = 0; need = need }) k
 unfolding chosen
-start-kept marks cells need nums cand q k path l = record { pool = q .pool; room = omega arith; state = record { known = q .masks; way = λ s h. absurd h; state = q .state } }
+start-kept marks cells need nums cand q k path l = record { pool = q .pool; room = omega arith; state = record { known = q .masks; state = q .state } }
 
 -- where w + h or fewer do not, none do
 pub no-plan : (marks cells need nums cand : List ℕ) → Marked stage (At cells) 512 marks → Questioned marks cells need nums cand → (w h : ℕ) → Greatest column (At cells) w → Greatest row (At cells) h

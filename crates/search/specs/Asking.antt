@@ -1,14 +1,16 @@
 -- What the quick search is asked with: the marked masks as a list, and a table with the numbers of each; and what a partial sum keeps for it on the way down.
 use mathlib.Core.Path.{_≡_}
-use mathlib.Core.Bool.{Bool, true, false}
-use mathlib.Core.List.{List, _∷_}
+use mathlib.Core.Bool.{Bool, false}
+use mathlib.Core.List.{List}
 use Prim.Native.Nat.{ℕ, _+_, _≤_, _<_}
 use lib.Dec.{T}
 use lib.ListN.{length, getD}
 use Rattle.plane.specs.Lists.{all}
-use Rattle.rows.specs.Cells.{Same, Sum, At, AtMask, AtOrigin, AtSum, chosen}
+use Rattle.rows.specs.Cells.{Same, Sum, At, AtMask, AtOrigin, AtSum}
 use Rattle.edges.specs.Edges.{Number}
-use Rattle.completions.specs.Completing.{Among, numberIn, Masks, Open, Ready, Allowed}
+use Rattle.completions.specs.declared.Here.{Here}
+use Rattle.completions.specs.declared.Child.{Child}
+use Rattle.completions.specs.Completing.{Among, numberIn, Masks, Open, aimOf, sumOf, Ready, Below, Allowed}
 use Rattle.completions.specs.Opening.{Room}
 use Rattle.search.specs.Tree.{tries, Marks}
 
@@ -45,17 +47,14 @@ pub record Questioned (marks cells need nums cand : List ℕ) : Type 0 where
   pub state : Open (tries marks) (numberIn nums) (At cells) AtOrigin (At cells) need
 
 -- what is kept of a partial sum with k stages to come
-pub record Kept (marks nums cand target rest path : List ℕ) (len : ℕ) (need : List ℕ) (k : ℕ) : Type 0 where
+pub record Kept (marks nums cand : List ℕ) (here : Here) (k : ℕ) : Type 0 where
   pub pool : Pooled marks nums cand
-  pub room : len + k ≤ 30
-  pub state : Ready (tries marks) nums target rest path len need
+  pub room : here .len + k ≤ 30
+  pub state : Ready (tries marks) nums here
 
 -- the partial sum below by the stage m, with j stages after it, or that no j permitted masks lead on from there
-pub record Led (nums cand target rest path : List ℕ) (len : ℕ) (need : List ℕ) (j m : ℕ) (ok : Bool) (target′ rest′ path′ : List ℕ) (len′ : ℕ) (need′ : List ℕ) : Type 0 where
-  pub same : ok ≡ true → target′ ≡ target
-  pub longer : ok ≡ true → (chosen path′ len′ ≡ m ∷ chosen path len) × (len′ ≡ len + 1)
-  pub falls : ok ≡ true → getD need′ 16 0 + getD need′ 17 0 < getD need 16 0 + getD need 17 0
-  pub ready : ok ≡ true → (permitted : ℕ → Bool) → Ready permitted nums target rest path len need → T (permitted m) → Ready permitted nums target′ rest′ path′ len′ need′
-  pub no : ok ≡ false → Room nums cand len j → (permitted : ℕ → Bool) → Ready permitted nums target rest path len need → Allowed permitted cand
+pub record Led (nums cand : List ℕ) (here : Here) (j m : ℕ) (r : Child) : Type 0 where
+  pub below : Below nums here m r
+  pub no : r .ok ≡ false → Room nums cand (here .len) j → (permitted : ℕ → Bool) → Ready permitted nums here → Allowed permitted cand
       → ((s : ℕ) → T (permitted s) → Among cand (length cand) s) → T (permitted m)
-      → (ns : List ℕ) → length ns ≡ j → T (all permitted ns) → Same (At target) (Sum (Sum (AtSum (chosen path len)) (AtMask m)) (AtSum ns)) → ⊥
+      → (ns : List ℕ) → length ns ≡ j → T (all permitted ns) → Same (aimOf here) (Sum (Sum (sumOf here) (AtMask m)) (AtSum ns)) → ⊥

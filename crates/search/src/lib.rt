@@ -11,8 +11,9 @@ ghost use Prim.Native.Nat.{_+_, _≤_, _<_, max, _/_};
 ghost use lib.Dec.{T, ltb};
 ghost use lib.ListN.{length, getD};
 ghost use Rattle.masks.specs.Mask.{stage as isStage};
-ghost use Rattle.rows.specs.Cells.{At, AtOrigin, AtSum, chosen};
+ghost use Rattle.rows.specs.Cells.{At, AtOrigin};
 ghost use Rattle.extents.specs.Extents.{Greatest, row, column};
+ghost use Rattle.completions.specs.Completing.{aimOf, sumOf};
 ghost use Rattle.search.specs.Plans.{Shortest};
 ghost use Rattle.search.specs.Tree.{Answer, NoneWith, tries, Marked};
 ghost use Rattle.search.specs.Asking.{Questioned, Kept, Led};
@@ -42,7 +43,7 @@ fn too_many(need: [u8; 18], j: usize) -> bool
 // The partial sum below by the stage m, with j stages after it. It is passed over where the extents that are needed are fewer than the stages left, or where the
 // quick search says that nothing completes it.
 fn tried(here: Here, nums: &[u8], cand: &[u16], j: usize, m: u16) -> Child
-    ensures { λ r. ⌜ Led (now (nums .entry)) (now (cand .entry)) (here .target) (here .rest) (here .path) (here .len) (here .need) j m (r .ok) (r .here .target) (r .here .rest) (r .here .path) (r .here .len) (r .here .need) ⌝ }
+    ensures { λ r. ⌜ Led (now (nums .entry)) (now (cand .entry)) here j m r ⌝ }
 {
     let c = completions::opened(here, nums, cand, m, j);
     if !c.ok {
@@ -61,8 +62,8 @@ fn tried(here: Here, nums: &[u8], cand: &[u16], j: usize, m: u16) -> Child
 
 // The first list of k stages, none below m, that completes the sum to its target.
 fn node(here: Here, marks: &[u8], nums: &[u8], cand: &[u16], k: usize, m: u16) -> Line
-    requires { ⌜ (m ≤ 512) × Kept (now marks) (now nums) (now cand) (here .target) (here .rest) (here .path) (here .len) (here .need) k ⌝ }
-    ensures { λ r. ⌜ Answer (tries (now (marks .entry))) (At (here .target)) (AtSum (chosen (here .path) (here .len))) k m (r .found) (r .masks) ⌝ }
+    requires { ⌜ (m ≤ 512) × Kept (now marks) (now nums) (now cand) here k ⌝ }
+    ensures { λ r. ⌜ Answer (tries (now (marks .entry))) (aimOf here) (sumOf here) k m (r .found) (r .masks) ⌝ }
 {
     if k == 0 {
         return Line {
@@ -88,9 +89,9 @@ fn node(here: Here, marks: &[u8], nums: &[u8], cand: &[u16], k: usize, m: u16) -
 
 // The same with m itself as the first of the k stages.
 fn stage(here: Here, marks: &[u8], nums: &[u8], cand: &[u16], k: usize, m: u16) -> Line
-    requires { ⌜ (0 < k) × (T (tries (now marks) m) × Kept (now marks) (now nums) (now cand) (here .target) (here .rest) (here .path) (here .len) (here .need) k) ⌝ }
-    ensures yes { λ r. ⌜ (r .found ≡ true → Answer (tries (now (marks .entry))) (At (here .target)) (AtSum (chosen (here .path) (here .len))) k m true (r .masks)) ⌝ }
-    ensures no { λ r. ⌜ (r .found ≡ false → NoneWith (tries (now (marks .entry))) (At (here .target)) (AtSum (chosen (here .path) (here .len))) k m) ⌝ }
+    requires { ⌜ (0 < k) × (T (tries (now marks) m) × Kept (now marks) (now nums) (now cand) here k) ⌝ }
+    ensures yes { λ r. ⌜ (r .found ≡ true → Answer (tries (now (marks .entry))) (aimOf here) (sumOf here) k m true (r .masks)) ⌝ }
+    ensures no { λ r. ⌜ (r .found ≡ false → NoneWith (tries (now (marks .entry))) (aimOf here) (sumOf here) k m) ⌝ }
 {
     let none = Line {
         found: false,

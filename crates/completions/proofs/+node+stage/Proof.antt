@@ -53,7 +53,7 @@ abbrev stage-claims : ℕ → stage-lts.Claims
 stage-claims t = (replaced-reads.Asked, replaced-reads.Learnt, step-reads.Asked, step-reads.Learnt, node-below t, node.Post)
 
 abbrev node-Inv-loop : node-lts.InvT-loop
-node-Inv-loop here nums cand k w h n i list p r₀ r = (p ≤ r) × ((r ≤ n) × Turned nums (here .target) (here .rest) (here .path) (here .len) (here .need) cand k (take n list) r)
+node-Inv-loop here nums cand k w h n i list p r₀ r = (p ≤ r) × ((r ≤ n) × Turned nums here cand k (take n list) r)
 
 abbrev node-μ-loop : node-lts.MeasureT-loop
 node-μ-loop here nums cand k w h n i list p r₀ r = r
@@ -77,13 +77,13 @@ node-mul-if3 : (t : ℕ) → node-lts.Need-mul-if3 (node-claims t) (node-at t) n
 node-mul-if3 t c = search needs
 
 node-returns-2 : (t : ℕ) → node-lts.Need-returns-2 (node-claims t) (node-at t) node.Post node-Inv-loop node-μ-loop
-node-returns-2 t c = λ e. too-wide _ _ _ _ _ _ _ _ (c .if3 .taken)
+node-returns-2 t c = λ e. too-wide _ _ _ _ (c .if3 .taken)
 
 node-mul-if4 : (t : ℕ) → node-lts.Need-mul-if4 (node-claims t) (node-at t) node.Post node-Inv-loop node-μ-loop
 node-mul-if4 t c = search needs
 
 node-returns-3 : (t : ℕ) → node-lts.Need-returns-3 (node-claims t) (node-at t) node.Post node-Inv-loop node-μ-loop
-node-returns-3 t c = λ e. too-high _ _ _ _ _ _ _ _ (c .if4 .taken)
+node-returns-3 t c = λ e. too-high _ _ _ _ (c .if4 .taken)
 
 node-fitted-requires : (t : ℕ) → node-lts.Need-fitted-requires (node-claims t) (node-at t) node.Post node-Inv-loop node-μ-loop
 node-fitted-requires t c κs =
@@ -117,7 +117,7 @@ node-loop-holds t c =
     let fewer = fit .few in
     let long = s .ensures .long in
     let order = s .ensures .order in
-    (order, (omega arith, turned-none _ _ _ _ _ _ _ _ (take n list) _ (omega (arith, length-take n list))))
+    (order, (omega arith, turned-none _ _ _ _ (take n list) _ (omega (arith, length-take n list))))
 
 node-sub-stage : (t : ℕ) → node-lts.Need-sub-stage (node-claims t) (node-at t) node.Post node-Inv-loop node-μ-loop
 node-sub-stage t c = search needs
@@ -182,8 +182,8 @@ node-loop-again t c =
       omega arith,
       (
         omega arith,
-        turned-more _ _ _ _ _ _ _ _ (take n list) r (omega arith) (omega (arith, length-take n list)) (inv .1 .1)
-            (subst (λ (u : ℕ). NoneBefore (now (st .args .nums)) (h .target) (h .rest) (h .path) (h .len) (h .need) (take u list) r (st .args .k)) whole (c .before .stage .ensures (c .if6 .left))),
+        turned-more _ _ _ _ (take n list) r (omega arith) (omega (arith, length-take n list)) (inv .1 .1)
+            (subst (λ (u : ℕ). NoneBefore (now (st .args .nums)) h (take u list) r (st .args .k)) whole (c .before .stage .ensures (c .if6 .left))),
       ),
     )
 
@@ -192,7 +192,7 @@ node-returns-6 t c = λ e.
     let s = c .before .before .split in
     let i = c .before .before .before .before .before .before .scarce in
     let f = c .before .before .before .before .before .before .before .before .before .fitted in
-    node-none _ _ _ _ _ _ _ _ (f .last .1 .1 .1 .0) (f .result) (f .ensures) _ (s .last .1 .1 .1 .1 .0) (s .result) (s .ensures) (c .before .loop .r) (omega arith) (i .ensures .1 (omega arith)) (omega arith)
+    node-none _ _ _ _ (f .last .1 .1 .1 .0) (f .result) (f .ensures) _ (s .last .1 .1 .1 .1 .0) (s .result) (s .ensures) (c .before .loop .r) (omega arith) (i .ensures .1 (omega arith)) (omega arith)
     (c .before .loop .inv .1 .1)
 
 stage-sub-m : (t : ℕ) → stage-lts.Need-sub-m (stage-claims t) (stage-at t) stage.Post
@@ -212,7 +212,7 @@ stage-returns t c = λ e.
     let st = c .before .before .before .before .before .before in
     let q = c .before .replaced in
     let found = q .ensures (c .if1 .taken) in
-    stage-replaced _ _ _ _ _ _ _ _ _ (st .pre .1 .1 .1 .1 .0) (st .pre .1 .1 .1 .1 .1 .0) (q .result) (c .if1 .taken) (found .0) (found .1)
+    stage-replaced _ _ _ _ _ (st .pre .1 .1 .1 .1 .0) (st .pre .1 .1 .1 .1 .1 .0) (q .result) (c .if1 .taken) (found .0) (found .1)
 
 stage-step-requires : (t : ℕ) → stage-lts.Need-step-requires (stage-claims t) (stage-at t) stage.Post
 stage-step-requires t c κs = search needs
@@ -220,7 +220,7 @@ stage-step-requires t c κs = search needs
 stage-returns-2 : (t : ℕ) → stage-lts.Need-returns-2 (stage-claims t) (stage-at t) stage.Post
 stage-returns-2 t c = λ e.
     let st = c .before .before .before .before .before .before .before .before .before in
-    stage-passed _ _ _ _ _ _ _ _ _ (st .pre .1 .1 .1 .1 .0) (st .pre .1 .1 .1 .1 .1 .0) _ _ _ _ _ _ (c .before .before .step .ensures) (not-true _ (c .if2 .taken))
+    stage-passed _ _ _ _ _ (st .pre .1 .1 .1 .1 .0) (st .pre .1 .1 .1 .1 .1 .0) _ (c .before .before .step .ensures) (not-true _ (c .if2 .taken))
 
 stage-sub-node : (t : ℕ) → stage-lts.Need-sub-node (stage-claims t) (stage-at t) stage.Post
 stage-sub-node t c = search needs
@@ -238,8 +238,8 @@ stage-node-requires : (t : ℕ) → stage-lts.Need-node-requires (stage-claims t
 stage-node-requires t c κs =
     let st = c .before .before .before .before .before .before .before .before .before .before .before in
     let ok = not-false _ (c .before .before .if2 .left) in
-    let n = c .before .before .before .before .step .ensures .longer ok .1 in
-    let falls = c .before .before .before .before .step .ensures .falls ok in
+    let n = c .before .before .before .before .step .ensures .below .longer ok .1 in
+    let falls = c .before .before .before .before .step .ensures .below .falls ok in
     let list = now (st .args .list) in
     let part = length-take (st .args .r - 0) list in
     (omega (arith, part), (omega (arith, n), (st .pre .1 .1 .1 .0, omega (arith, part))))
@@ -250,8 +250,8 @@ stage-returns-3 t c = λ e.
     let list = now (st .args .list) in
     let whole : st .args .r - 0 ≡ st .args .r = omega arith in
     let h = c .before .before .before .before .before .step .result .here in
-    stage-none _ _ _ _ _ _ list (st .args .r) _ (st .pre .1 .1 .1 .1 .0) (st .pre .1 .1 .1 .1 .1 .0) _ _ _ _ _ _ (c .before .before .before .before .before .step .ensures) (not-false _ (c .before .before .before .if2 .left)) (st .pre .1 .0)
-    (subst (λ (n : ℕ). NoneHere (now (st .args .nums)) (h .target) (h .rest) (h .path) (h .len) (h .need) (take n list) (st .args .k - 1)) whole (c .node .ensures e))
+    stage-none _ _ list (st .args .r) _ (st .pre .1 .1 .1 .1 .0) (st .pre .1 .1 .1 .1 .1 .0) _ (c .before .before .before .before .before .step .ensures) (not-false _ (c .before .before .before .if2 .left)) (st .pre .1 .0)
+    (subst (λ (n : ℕ). NoneHere (now (st .args .nums)) h (take n list) (st .args .k - 1)) whole (c .node .ensures e))
 
 pub +node+stage-spec : {M : Type 1} → statement M
 +node+stage-spec = close μ-node μ-stage (λ t. node-lts.spec (node-claims t)

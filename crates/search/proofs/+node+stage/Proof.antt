@@ -11,7 +11,7 @@ use lib.Dec.{eqb→eq}
 use lib.ListN.{length, getD}
 use Rattle.plane.proofs.Tests.{eq-eqb}
 use Rattle.masks.proofs.Cells.{stage-below as mask-below}
-use Rattle.rows.specs.Cells.{At, AtSum, chosen}
+use Rattle.completions.specs.Completing.{aimOf, sumOf}
 use Rattle.rows.proofs.Known.{field-length}
 use Rattle.rows.proofs.Sums.{zero-at}
 use Rattle.search.specs.Tree.{Answer, Passed, tries}
@@ -55,7 +55,7 @@ abbrev stage-claims : ℕ → stage-lts.Claims
 stage-claims t = (tried-reads.Asked, tried-reads.Learnt, node-below t, node.Post)
 
 abbrev node-Inv-loop : node-lts.InvT-loop
-node-Inv-loop here marks nums cand k m i₀ i = (i ≤ 512) × Passed (tries marks) (At (here .target)) (AtSum (chosen (here .path) (here .len))) k m i
+node-Inv-loop here marks nums cand k m i₀ i = (i ≤ 512) × Passed (tries marks) (aimOf here) (sumOf here) k m i
 
 abbrev node-μ-loop : node-lts.MeasureT-loop
 node-μ-loop here marks nums cand k m i₀ i = 512 - i
@@ -70,7 +70,7 @@ node-returns t c =
     let kept = st .pre .1 .1 in
     let room = kept .room in
     let left = kept .state .state .left in
-    at-leaf (tries (now (st .args .marks))) (At (h .target)) (AtSum (chosen (h .path) (h .len))) (st .args .k) (st .args .m) (c .finished .result) _
+    at-leaf (tries (now (st .args .marks))) (aimOf h) (sumOf h) (st .args .k) (st .args .m) (c .finished .result) _
     (c .before .if1 .taken) (λ e. c .finished .ensures .whole e left) (λ e. c .finished .ensures .part e (omega arith) left) (zero-at 32)
 
 node-loop-holds : (t : ℕ) → node-lts.Need-loop-holds (node-claims t) (node-at t) node.Post node-Inv-loop node-μ-loop
@@ -100,7 +100,7 @@ node-returns-2 t c =
     let h = st .args .here in
     let l = c .before .before .before .before .before .loop in
     let p = c .before .stage in
-    subst (λ (d : Bool). Answer (tries (now (st .args .marks))) (At (h .target)) (AtSum (chosen (h .path) (h .len))) (st .args .k) (st .args .m) d (p .result .masks)) (sym (c .if3 .taken))
+    subst (λ (d : Bool). Answer (tries (now (st .args .marks))) (aimOf h) (sumOf h) (st .args .k) (st .args .m) d (p .result .masks)) (sym (c .if3 .taken))
     (passed-found _ _ _ (st .args .k) (st .args .m) (omega arith) (l .i) _ (l .inv .1) (p .ensures .0 (c .if3 .taken)))
 
 node-add-i : (t : ℕ) → node-lts.Need-add-i (node-claims t) (node-at t) node.Post node-Inv-loop node-μ-loop
@@ -139,7 +139,7 @@ stage-returns t c =
     let kept = st .pre .1 .1 .1 in
     let room = kept .room in (
       λ e. absurd (false≢true e),
-      λ e. below-none (tries (now (st .args .marks))) (now (st .args .nums)) (now (st .args .cand)) (h .target) (h .rest) (h .path) (h .len) (h .need) (st .args .k) (st .args .m) _ _ _ _ _ _ (c .before .before .tried .ensures) (not-true _ (c .if1 .taken))
+      λ e. below-none (tries (now (st .args .marks))) (now (st .args .nums)) (now (st .args .cand)) h (st .args .k) (st .args .m) _ (c .before .before .tried .ensures) (not-true _ (c .if1 .taken))
           (record { table = kept .pool .table; list = kept .pool .few; path = omega arith }) (kept .state) (kept .pool .allowed) (kept .pool .all) (st .pre .1 .1 .0),
     )
 
@@ -154,10 +154,10 @@ stage-node-requires t c κs =
     let room = kept .room in
     let tr = c .before .before .before .tried in
     let ok = not-false _ (c .before .if1 .left) in
-    let falls = tr .ensures .falls ok in
-    let longer = tr .ensures .longer ok .1 in
+    let falls = tr .ensures .below .falls ok in
+    let longer = tr .ensures .below .longer ok .1 in
     let low = mask-below (st .args .m) (kept .pool .marked .stages (st .args .m) (st .pre .1 .1 .0)) in
-    (omega arith, (omega arith, record { pool = kept .pool; room = omega arith; state = tr .ensures .ready ok (tries (now (st .args .marks))) (kept .state) (st .pre .1 .1 .0) }))
+    (omega arith, (omega arith, record { pool = kept .pool; room = omega arith; state = tr .ensures .below .ready ok (tries (now (st .args .marks))) (kept .state) (st .pre .1 .1 .0) }))
 
 stage-returns-2 : (t : ℕ) → stage-lts.Need-returns-2 (stage-claims t) (stage-at t) stage.Post
 stage-returns-2 t c =
@@ -165,7 +165,7 @@ stage-returns-2 t c =
     let h = st .args .here in
     let n = c .before .before .node in (
       λ e. absurd (false≢true e),
-      λ e. below-closed (tries (now (st .args .marks))) (now (st .args .nums)) (now (st .args .cand)) (h .target) (h .rest) (h .path) (h .len) (h .need) (st .args .k) (st .args .m) _ _ _ _ _ _ (c .before .before .before .before .before .before .tried .ensures) (not-false _ (c .before .before .before .before .if1 .left)) (st .pre .1 .0) (st .pre .1 .1 .0) _ _
+      λ e. below-closed (tries (now (st .args .marks))) (now (st .args .nums)) (now (st .args .cand)) h (st .args .k) (st .args .m) _ (c .before .before .before .before .before .before .tried .ensures) (not-false _ (c .before .before .before .before .if1 .left)) (st .pre .1 .0) (st .pre .1 .1 .0) _ _
           (n .ensures) (not-true _ (c .if2 .taken)),
     )
 
@@ -186,7 +186,7 @@ stage-returns-3 t c =
     let n = c .before .before .node in
     let f = not-false _ (c .if2 .left) in
     let l : length (n .result .masks) ≡ 32 = field-length 32 (n .result .masks) (n .ok .1 .1 .1 .0 .1 .0 .1) in (
-      λ e. below-found (tries (now (st .args .marks))) (now (st .args .nums)) (now (st .args .cand)) (h .target) (h .rest) (h .path) (h .len) (h .need) (st .args .k) (st .args .m) _ _ _ _ _ _ (c .before .before .before .before .before .before .tried .ensures) (not-false _ (c .before .before .before .before .if1 .left)) (st .pre .1 .0) (st .pre .1 .1 .0) _ _
+      λ e. below-found (tries (now (st .args .marks))) (now (st .args .nums)) (now (st .args .cand)) h (st .args .k) (st .args .m) _ (c .before .before .before .before .before .before .tried .ensures) (not-false _ (c .before .before .before .before .if1 .left)) (st .pre .1 .0) (st .pre .1 .1 .0) _ _
           (n .ensures) f (omega arith),
       λ e. absurd (true≢false (sym f ∙ e)),
     )

@@ -14,7 +14,7 @@ returns : tie.Need-returns
 returns c =
     let st = c .before .before .before .before .before in
     let h = st .args .here in
-    led (now (st .args .nums)) (now (st .args .cand)) (h .target) (h .rest) (h .path) (h .len) (h .need) (st .args .m) (st .args .j) _ _ _ _ _ _ (c .before .before .opened .ensures)
+    led (now (st .args .nums)) (now (st .args .cand)) h (st .args .m) (st .args .j) _ (c .before .before .opened .ensures)
 
 too-many-requires : tie.Need-too-many-requires
 too-many-requires c κs = search needs
@@ -23,13 +23,13 @@ returns-2 : tie.Need-returns-2
 returns-2 c =
     let st = c .before .before .before .before .before .before .before .before .before in
     let h = st .args .here in
-    led-few (now (st .args .nums)) (now (st .args .cand)) (h .target) (h .rest) (h .path) (h .len) (h .need) (st .args .m) (st .args .j) _ _ _ _ _ _ (c .before .before .before .before .before .before .opened .ensures) (not-false _ (c .before .before .before .before .if1 .left)) (ltb-true _ _ (sym (c .before .too-many .ensures) ∙ c .if2 .taken))
+    led-few (now (st .args .nums)) (now (st .args .cand)) h (st .args .m) (st .args .j) _ (c .before .before .before .before .before .before .opened .ensures) (not-false _ (c .before .before .before .before .if1 .left)) (ltb-true _ _ (sym (c .before .too-many .ensures) ∙ c .if2 .taken))
 
 returns-3 : tie.Need-returns-3
 returns-3 c =
     let st = c .before .before .before .before .before .before .before .before .before in
     let h = st .args .here in
-    led (now (st .args .nums)) (now (st .args .cand)) (h .target) (h .rest) (h .path) (h .len) (h .need) (st .args .m) (st .args .j) _ _ _ _ _ _ (c .before .before .before .before .before .before .opened .ensures)
+    led (now (st .args .nums)) (now (st .args .cand)) h (st .args .m) (st .args .j) _ (c .before .before .before .before .before .before .opened .ensures)
 
 pub tried-spec : {M : Type 1} → statement M
 tried-spec = tie.close (tie.spec opened-requires returns too-many-requires returns-2 returns-3)

@@ -13,7 +13,7 @@ returns c =
     let st = c .before .before in
     let h = st .args .here in
     let nums = now (st .args .nums) in
-    stepped-no nums (h .target) (h .rest) (h .path) (h .len) (h .need) (st .args .m) _ _ _ _ _ (λ permitted r t L f. let d = r .known .below (st .args .m) t in let g = c .if1 .taken in omega arith)
+    stepped-no nums h (st .args .m) (λ permitted r t L f. let d = r .known .below (st .args .m) t in let g = c .if1 .taken in omega arith)
 
 fits-requires : tie.Need-fits-requires
 fits-requires c κs = search needs
@@ -23,7 +23,7 @@ returns-2 c =
     let st = c .before .before .before .before .before in
     let h = st .args .here in
     let nums = now (st .args .nums) in
-    stepped-no nums (h .target) (h .rest) (h .path) (h .len) (h .need) (st .args .m) _ _ _ _ _ (λ permitted r t. step-unfit nums (h .target) (h .rest) (h .path) (h .len) (h .need) (st .args .m) permitted r t (c .before .fits2 .ensures .1 (not-true _ (c .if2 .taken))))
+    stepped-no nums h (st .args .m) (λ permitted r t. step-unfit nums h (st .args .m) permitted r t (c .before .fits2 .ensures .1 (not-true _ (c .if2 .taken))))
 
 shrunk-requires : tie.Need-shrunk-requires
 shrunk-requires c κs = search needs
@@ -40,7 +40,7 @@ returns-3 c =
     let h = st .args .here in
     let nums = now (st .args .nums) in
     let known = field16 (h .rest) _ (st .good .0 .1 .1 .1 .0) in
-    stepped-no nums (h .target) (h .rest) (h .path) (h .len) (h .need) (st .args .m) _ _ _ _ _ (λ permitted r t. step-unmet nums (h .target) (h .rest) (h .path) (h .len) (h .need) (st .args .m) permitted r t known _ (c .before .before .before .shrunk .ensures) (c .before .before .less .result) (c .before .before .less .ensures)
+    stepped-no nums h (st .args .m) (λ permitted r t. step-unmet nums h (st .args .m) permitted r t known _ (c .before .before .before .shrunk .ensures) (c .before .before .less .result) (c .before .before .less .ensures)
     (c .before .before .before .before .before .before .before .before .fits2 .ensures .0 (not-false _ (c .before .before .before .before .before .before .before .if2 .left))) (c .before .reaches .ensures .1 (not-true _ (c .if3 .taken))))
 
 covers-requires : tie.Need-covers-requires
@@ -52,7 +52,7 @@ returns-4 c =
     let h = st .args .here in
     let nums = now (st .args .nums) in
     let known = field16 (h .rest) _ (st .good .0 .1 .1 .1 .0) in
-    stepped-no nums (h .target) (h .rest) (h .path) (h .len) (h .need) (st .args .m) _ _ _ _ _ (λ permitted r t. step-uncovered nums (h .target) (h .rest) (h .path) (h .len) (h .need) (st .args .m) permitted r t known _ (c .before .before .before .before .before .shrunk .ensures) (c .before .covers .ensures (not-true _ (c .if4 .taken))))
+    stepped-no nums h (st .args .m) (λ permitted r t. step-uncovered nums h (st .args .m) permitted r t known _ (c .before .before .before .before .before .shrunk .ensures) (c .before .covers .ensures (not-true _ (c .if4 .taken))))
 
 mul-way : tie.Need-mul-way
 mul-way c = search needs
@@ -73,7 +73,7 @@ returns-5 c =
     let less = c .before .before .before .before .less .ensures in
     let p = less 16 (omega arith) in
     let q = less 17 (omega arith) in
-    stepped-yes nums (h .target) (h .rest) (h .path) (h .len) (h .need) (st .args .m) known _ _ (c .before .before .before .before .before .shrunk .ensures) less (omega (arith, long)) (gained _ _ _ _ (omega arith) (omega arith) (c .before .before .before .reaches .ensures .0 (not-false _ (c .before .before .if3 .left))))
+    stepped-yes nums h (st .args .m) known _ _ (c .before .before .before .before .before .shrunk .ensures) less (omega (arith, long)) (gained _ _ _ _ (omega arith) (omega arith) (c .before .before .before .reaches .ensures .0 (not-false _ (c .before .before .if3 .left))))
 
 pub step-spec : {M : Type 1} → statement M
 step-spec =
