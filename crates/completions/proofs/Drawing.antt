@@ -92,7 +92,7 @@ module _ (nums xs : List ℕ) (i : ℕ) where
       last m d = record { at = j; before = omega arith; is = sym e ∙ sym d }
 
 -- after t of other behind the p of list
-pub record JoinedTo (list₀ list other : List ℕ) (p t : ℕ) : Type 0 where
+pub record AppendedTo (list₀ list other : List ℕ) (p t : ℕ) : Type 0 where
   pub long : length list ≡ 512
   pub first : (m : ℕ) → Among list₀ p m → Among list p m
   pub back : (m : ℕ) → Among list p m → Among list₀ p m
@@ -100,11 +100,11 @@ pub record JoinedTo (list₀ list other : List ℕ) (p t : ℕ) : Type 0 where
   pub only : (m : ℕ) → Among list (p + t) m → Among list₀ p m ⊎ Among other t m
 
 module _ (list₀ other : List ℕ) (p : ℕ) where
-  pub joined-none : length list₀ ≡ 512 → JoinedTo list₀ list₀ other p 0
-  joined-none l = record { long = l; first = λ m a. a; back = λ m a. a; behind = λ m a. let c = a .before in absurd (omega arith); only = λ m a. inl (among-more list₀ (p + 0) p m (omega arith) a) }
+  pub appended-none : length list₀ ≡ 512 → AppendedTo list₀ list₀ other p 0
+  appended-none l = record { long = l; first = λ m a. a; back = λ m a. a; behind = λ m a. let c = a .before in absurd (omega arith); only = λ m a. inl (among-more list₀ (p + 0) p m (omega arith) a) }
 
-  pub joined-more : (list : List ℕ) (t : ℕ) → p + t < 512 → JoinedTo list₀ list other p t → JoinedTo list₀ (set list (p + t) (getD other t 0)) other p (t + 1)
-  joined-more list t l h = record {
+  pub appended-more : (list : List ℕ) (t : ℕ) → p + t < 512 → AppendedTo list₀ list other p t → AppendedTo list₀ (set list (p + t) (getD other t 0)) other p (t + 1)
+  appended-more list t l h = record {
     long = length-set list (p + t) (getD other t 0) ∙ h .long;
     first = λ m a. set-above list p (p + t) (getD other t 0) m (omega arith) (h .first m a);
     back = λ m a. h .back m (set-below list p (p + t) (getD other t 0) m (omega arith) a);

@@ -7,13 +7,13 @@ use native.Mathlib.Omega.{arith}
 use lib.Dec.{T}
 use lib.ListN.{length, getD, take, length-take}
 use lib.Seq.{getD-take}
-use Rattle.rows.specs.Cells.{Cells, Sum, At, AtMask, AtSum, chosen}
+use Rattle.rows.specs.Cells.{Cells, Sum, At, AtMask, chosen}
 use Rattle.completions.specs.declared.Here.{Here}
 use Rattle.completions.specs.declared.Child.{Child}
-use Rattle.completions.specs.Completing.{Among, None, NoneWith, Tried, Fit, Replaces, numberIn, aimOf, sumOf, Ready, Stepped, Fitting, Split, Allowed, NoneHere, NoneBefore, NoSum}
+use Rattle.completions.specs.Completing.{Among, None, NoneThrough, Spent, Replaces, numberIn, aimOf, partialSum, Ready, Stepped, Fitting, Split, Allowed, NoneHere, NoneBefore, NoSum}
 use Rattle.completions.proofs.Loops.{among-more}
 use Rattle.completions.proofs.Stepping.{below-fills}
-use Rattle.completions.proofs.Branches.{tried-none, tried-more, none-below, passed-over, replaced-gone, branch-end, drawn, too-few}
+use Rattle.completions.proofs.Branches.{spent-none, spent-more, none-below, passed-over, replaced-gone, branch-end, drawn, too-few}
 
 -- ---- a part of a list
 
@@ -28,7 +28,7 @@ of-part xs n r m l a = let b = a .before in record { at = a .at; before = b; is 
 
 module _ (nums : List ℕ) (here : Here) (cand : List ℕ) (k : ℕ) where
   abbrev Y : Cells
-  Y = sumOf here
+  Y = partialSum here
 
   -- k masks do not reach the width, or the height, that is needed
   pub too-wide : 2 * k < getD (here .need) 16 0 → NoneHere nums here cand k
@@ -39,19 +39,19 @@ module _ (nums : List ℕ) (here : Here) (cand : List ℕ) (k : ℕ) where
 
   -- of the masks of a list those from r on were tried, whichever masks are permitted
   pub record Turned (xs : List ℕ) (r : ℕ) : Type 0 where
-    pub tried : (permitted : ℕ → Bool) → Ready permitted nums here → Allowed permitted xs → Tried permitted (aimOf here) Y xs (length xs) r k
+    pub spent : (permitted : ℕ → Bool) → Ready permitted nums here → Allowed permitted xs → Spent permitted (aimOf here) Y xs (length xs) r k
 
   pub turned-none : (xs : List ℕ) (r : ℕ) → r ≡ length xs → Turned xs r
-  turned-none xs r e = record { tried = λ permitted s a. subst (λ (j : ℕ). Tried permitted (aimOf here) Y xs (length xs) j k) (sym e) (tried-none permitted (aimOf here) Y xs (length xs) k) }
+  turned-none xs r e = record { spent = λ permitted s a. subst (λ (j : ℕ). Spent permitted (aimOf here) Y xs (length xs) j k) (sym e) (spent-none permitted (aimOf here) Y xs (length xs) k) }
 
   pub turned-more : (xs : List ℕ) (r : ℕ) → 0 < r → r ≤ length xs → Turned xs r → NoneBefore nums here xs r k → Turned xs (r - 1)
   turned-more xs r p l t h = record {
-    tried = λ permitted s a.
+    spent = λ permitted s a.
         let e : suc (r - 1) ≡ r = omega arith in
-        let was = t .tried permitted s a in
-        tried-more permitted (aimOf here) Y xs (length xs) k (r - 1) (omega arith)
-        (subst (λ (j : ℕ). Tried permitted (aimOf here) Y xs (length xs) j k) (sym e) was)
-        (subst (λ (j : ℕ). NoneWith permitted (aimOf here) Y xs j k (getD xs (r - 1) 0)) (sym e) (h .no permitted s a was (r - 1) e));
+        let was = t .spent permitted s a in
+        spent-more permitted (aimOf here) Y xs (length xs) k (r - 1) (omega arith)
+        (subst (λ (j : ℕ). Spent permitted (aimOf here) Y xs (length xs) j k) (sym e) was)
+        (subst (λ (j : ℕ). NoneThrough permitted (aimOf here) Y xs j k (getD xs (r - 1) 0)) (sym e) (h .no permitted s a was (r - 1) e));
   }
 
   -- the loop's end: a number is needed that none of those left has
@@ -69,14 +69,14 @@ module _ (nums : List ℕ) (here : Here) (cand : List ℕ) (k : ℕ) where
           (λ m g b f. let d = s .known .below m g in to-part list n m (omega arith) (cut .all m d (fit .all m d b f)))
           (branch-end permitted (aimOf here) Y (take n list) (length (take n list)) k (numberIn nums) (At (here .rest)) (here .need) (s .state) i r l z
           (λ m g b. cut .without m (s .known .below m g) (among-more list r p m q (of-part list n r m (omega arith) b)))
-          (t .tried permitted s (allowed permitted a)));
+          (t .spent permitted s (allowed permitted a)));
     }
 
 -- ---- a stage
 
 module _ (nums : List ℕ) (here : Here) (list : List ℕ) (r k : ℕ) (r-in : 0 < r) (r-to : r ≤ length list) where
   abbrev Z : Cells
-  Z = sumOf here
+  Z = partialSum here
 
   abbrev m : ℕ
   m = getD list (r - 1) 0
@@ -88,9 +88,9 @@ module _ (nums : List ℕ) (here : Here) (list : List ℕ) (r k : ℕ) (r-in : 0
   permitted-m permitted a = a m (record { at = r - 1; before = omega arith; is = refl })
 
   -- what is shown of the mask before r
-  none-of : ((permitted : ℕ → Bool) → Ready permitted nums here → Allowed permitted list → Tried permitted (aimOf here) Z list (length list) r k
-      → NoneWith permitted (aimOf here) Z list r k m) → NoneBefore nums here list r k
-  none-of f = record { no = λ permitted s a t j e. subst (λ (i : ℕ). NoneWith permitted (aimOf here) Z list r k (getD list i 0)) (sym (before-is j e)) (f permitted s a t) }
+  none-of : ((permitted : ℕ → Bool) → Ready permitted nums here → Allowed permitted list → Spent permitted (aimOf here) Z list (length list) r k
+      → NoneThrough permitted (aimOf here) Z list r k m) → NoneBefore nums here list r k
+  none-of f = record { no = λ permitted s a t j e. subst (λ (i : ℕ). NoneThrough permitted (aimOf here) Z list r k (getD list i 0)) (sym (before-is j e)) (f permitted s a t) }
 
   -- rule S: a mask that was tried replaces it
   pub stage-replaced : (p : ℕ) → p < length list → r ≤ p → ((i j : ℕ) → AtMask m i j → Replaces (At (here .rest)) m (getD list p 0)) → NoneBefore nums here list r k

@@ -8,8 +8,8 @@ use lib.ListN.{length}
 use Rattle.rows.specs.Cells.{Sum, AtMask}
 use Rattle.completions.specs.declared.Here.{Here}
 use Rattle.completions.specs.declared.Child.{Child}
-use Rattle.completions.specs.Completing.{Fills, From, aimOf, sumOf, Ready, Allowed, Stepped, NoneHere}
-use Rattle.completions.specs.Opening.{Room, Opened}
+use Rattle.completions.specs.Completing.{Fills, From, aimOf, partialSum, Ready, Allowed, Stepped, NoneHere}
+use Rattle.completions.specs.Opening.{Roomy, Opened}
 use Rattle.completions.proofs.Stepping.{below-no, below-fills}
 
 module _ (nums cand : List ℕ) (here : Here) (m k : ℕ) where
@@ -17,13 +17,13 @@ module _ (nums cand : List ℕ) (here : Here) (m k : ℕ) where
   abbrev shut : Child
   shut = record { ok = false; here = here }
 
-  opened-no : (Room nums cand (here .len) k → (permitted : ℕ → Bool) → Ready permitted nums here → Allowed permitted cand → T (permitted m)
-      → (L : List ℕ) → Fills permitted (aimOf here) (Sum (sumOf here) (AtMask m)) L → From cand (length cand) L → length L ≤ k → ⊥)
+  opened-no : (Roomy nums cand (here .len) k → (permitted : ℕ → Bool) → Ready permitted nums here → Allowed permitted cand → T (permitted m)
+      → (L : List ℕ) → Fills permitted (aimOf here) (Sum (partialSum here) (AtMask m)) L → From cand (length cand) L → length L ≤ k → ⊥)
       → Opened nums cand here m k shut
   opened-no f = record { outside = λ _. refl; back = λ _. refl; below = below-no nums here m here; no = λ e. f }
 
   -- out of bounds
-  pub opened-outside : (Room nums cand (here .len) k → ⊥) → Opened nums cand here m k shut
+  pub opened-outside : (Roomy nums cand (here .len) k → ⊥) → Opened nums cand here m k shut
   opened-outside f = opened-no (λ r. absurd (f r))
 
   module _ (c : Child) (st : Stepped nums here m c) where
@@ -37,7 +37,7 @@ module _ (nums cand : List ℕ) (here : Here) (m k : ℕ) where
         h .no permitted (st .below .ready e permitted r t) a .no L (below-fills nums here m c (st .below) e permitted L f) b q)
 
     -- the state below
-    pub opened-yes : c .ok ≡ true → Room nums cand (here .len) k → Opened nums cand here m k c
+    pub opened-yes : c .ok ≡ true → Roomy nums cand (here .len) k → Opened nums cand here m k c
     opened-yes e room = record {
       outside = λ f. absurd (f room);
       back = λ d. absurd (true≢false (sym e ∙ d));

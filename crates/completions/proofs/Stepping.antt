@@ -16,7 +16,7 @@ use Rattle.rows.proofs.Addition.{same-sym, same-trans, to-cell, add-cells, sum-
 use Rattle.rows.proofs.Sums.{Rows16, in-x, in-y}
 use Rattle.completions.specs.declared.Here.{Here}
 use Rattle.completions.specs.declared.Child.{Child}
-use Rattle.completions.specs.Completing.{Fills, Open, Fit, Differs, Spans, Unmet, Masks, aimOf, sumOf, extentsOf, Ready, Below, Stepped, numberIn}
+use Rattle.completions.specs.Completing.{Fills, Open, Fit, Differs, Spans, Unmet, Masks, aimOf, partialSum, extentsOf, Ready, Below, Stepped, numberIn}
 use Rattle.completions.proofs.Members.{down, down-counts, not-fit, in-rest, fills-same}
 
 -- ---- what is known does not depend on how the sum is written
@@ -73,13 +73,13 @@ below-no nums here m there = record {
   ready = λ e. absurd (false≢true e);
 }
 
-pub stepped-no : (nums : List ℕ) (here : Here) (m : ℕ) → ((permitted : ℕ → Bool) → Ready permitted nums here → T (permitted m) → (L : List ℕ) → Fills permitted (aimOf here) (Sum (sumOf here) (AtMask m)) L → ⊥)
+pub stepped-no : (nums : List ℕ) (here : Here) (m : ℕ) → ((permitted : ℕ → Bool) → Ready permitted nums here → T (permitted m) → (L : List ℕ) → Fills permitted (aimOf here) (Sum (partialSum here) (AtMask m)) L → ⊥)
     → Stepped nums here m (record { ok = false; here = here })
 stepped-no nums here m f = record { below = below-no nums here m here; no = λ e. f }
 
 module _ (nums : List ℕ) (here : Here) (m : ℕ) where
   abbrev Y : Cells
-  Y = sumOf here
+  Y = partialSum here
 
   abbrev rest : List ℕ
   rest = here .rest
@@ -165,8 +165,8 @@ module _ (nums : List ℕ) (here : Here) (m : ℕ) where
 
 -- what completes the sum with m completes the sum of the state below
 pub below-fills : (nums : List ℕ) (here : Here) (m : ℕ) (r : Child) → Below nums here m r → r .ok ≡ true → (permitted : ℕ → Bool) (L : List ℕ)
-    → Fills permitted (aimOf here) (Sum (sumOf here) (AtMask m)) L → Fills permitted (aimOf (r .here)) (sumOf (r .here)) L
+    → Fills permitted (aimOf here) (Sum (partialSum here) (AtMask m)) L → Fills permitted (aimOf (r .here)) (partialSum (r .here)) L
 below-fills nums here m r b e permitted L f =
-    subst (λ (A : List ℕ). Fills permitted (At A) (sumOf (r .here)) L) (sym (b .same e))
+    subst (λ (A : List ℕ). Fills permitted (At A) (partialSum (r .here)) L) (sym (b .same e))
     (subst (λ (ms : List ℕ). Fills permitted (aimOf here) (AtSum ms) L) (sym (b .longer e .0))
-    (fills-same permitted (aimOf here) (Sum (sumOf here) (AtMask m)) (Sum (AtMask m) (sumOf here)) L sum-comm f))
+    (fills-same permitted (aimOf here) (Sum (partialSum here) (AtMask m)) (Sum (AtMask m) (partialSum here)) L sum-comm f))

@@ -33,13 +33,13 @@ pub record None (permitted : ℕ → Bool) (A Y : Cells) (xs : List ℕ) (n k : 
   pub no : (L : List ℕ) → Fills permitted A Y L → From xs n L → length L ≤ k → ⊥
 
 -- none of them with m among them
-pub record NoneWith (permitted : ℕ → Bool) (A Y : Cells) (xs : List ℕ) (n k m : ℕ) : Type 0 where
+pub record NoneThrough (permitted : ℕ → Bool) (A Y : Cells) (xs : List ℕ) (n k m : ℕ) : Type 0 where
   pub no : (L : List ℕ) → Fills permitted A Y (m ∷ L) → From xs n L → length L < k → ⊥
 
 -- of the first n of xs those from r on were tried: what completes Y to A has none of them
-pub record Tried (permitted : ℕ → Bool) (A Y : Cells) (xs : List ℕ) (n r k : ℕ) : Type 0 where
+pub record Spent (permitted : ℕ → Bool) (A Y : Cells) (xs : List ℕ) (n r k : ℕ) : Type 0 where
   pub left : (L : List ℕ) → Fills permitted A Y L → From xs n L → length L ≤ k → From xs r L
-  pub gone : (j : ℕ) → r ≤ j → j < n → NoneWith permitted A Y xs n k (getD xs j 0)
+  pub gone : (j : ℕ) → r ≤ j → j < n → NoneThrough permitted A Y xs n k (getD xs j 0)
 
 -- what is known of a partial sum Y: the residue of the target, and the eighteen numbers that what completes it has in all
 pub record Open (permitted : ℕ → Bool) (num : ℕ → ℕ → ℕ) (A Y T : Cells) (need : List ℕ) : Type 0 where
@@ -78,8 +78,8 @@ pub record Masks (permitted : ℕ → Bool) (nums : List ℕ) : Type 0 where
 abbrev pub aimOf : Here → Cells
 aimOf here = At (here .target)
 
-abbrev pub sumOf : Here → Cells
-sumOf here = AtSum (chosen (here .path) (here .len))
+abbrev pub partialSum : Here → Cells
+partialSum here = AtSum (chosen (here .path) (here .len))
 
 -- the width and the height that are needed, together
 abbrev pub extentsOf : Here → ℕ
@@ -88,7 +88,7 @@ extentsOf here = getD (here .need) 16 0 + getD (here .need) 17 0
 -- what a state keeps: the path has the masks of the partial sum, rest its residue, and need the numbers that are needed
 pub record Ready (permitted : ℕ → Bool) (nums : List ℕ) (here : Here) : Type 0 where
   pub known : Masks permitted nums
-  pub state : Open permitted (numberIn nums) (aimOf here) (sumOf here) (At (here .rest)) (here .need)
+  pub state : Open permitted (numberIn nums) (aimOf here) (partialSum here) (At (here .rest)) (here .need)
 
 -- where r is a state, it is the state below by the mask m
 pub record Below (nums : List ℕ) (here : Here) (m : ℕ) (r : Child) : Type 0 where
@@ -100,7 +100,7 @@ pub record Below (nums : List ℕ) (here : Here) (m : ℕ) (r : Child) : Type 0 
 -- the state below by the mask m, or that nothing completes the sum with m
 pub record Stepped (nums : List ℕ) (here : Here) (m : ℕ) (r : Child) : Type 0 where
   pub below : Below nums here m r
-  pub no : r .ok ≡ false → (permitted : ℕ → Bool) → Ready permitted nums here → T (permitted m) → (L : List ℕ) → Fills permitted (aimOf here) (Sum (sumOf here) (AtMask m)) L → ⊥
+  pub no : r .ok ≡ false → (permitted : ℕ → Bool) → Ready permitted nums here → T (permitted m) → (L : List ℕ) → Fills permitted (aimOf here) (Sum (partialSum here) (AtMask m)) L → ⊥
 
 -- of xs, those of the first n that fit what is needed are among the first n′ of xs′
 pub record Fitting (nums need xs : List ℕ) (n : ℕ) (xs′ : List ℕ) (n′ : ℕ) : Type 0 where
@@ -118,7 +118,7 @@ pub record Split (nums xs : List ℕ) (n i : ℕ) (xs′ : List ℕ) (p : ℕ) :
   pub long : length xs′ ≡ 512
 
 -- xs has the first p of list and then the first q of other
-pub record Joined (list : List ℕ) (p : ℕ) (other : List ℕ) (q : ℕ) (xs : List ℕ) : Type 0 where
+pub record Appended (list : List ℕ) (p : ℕ) (other : List ℕ) (q : ℕ) (xs : List ℕ) : Type 0 where
   pub first : (m : ℕ) → Among list p m → Among xs (p + q) m
   pub behind : (m : ℕ) → Among other q m → Among xs (p + q) m
   pub back : (m : ℕ) → Among xs p m → Among list p m
@@ -131,12 +131,12 @@ Allowed permitted xs = (m : ℕ) → Among xs (length xs) m → T (permitted m)
 
 -- nothing completes the sum of a state with k masks of a list or fewer
 pub record NoneHere (nums : List ℕ) (here : Here) (cand : List ℕ) (k : ℕ) : Type 0 where
-  pub no : (permitted : ℕ → Bool) → Ready permitted nums here → Allowed permitted cand → None permitted (aimOf here) (sumOf here) cand (length cand) k
+  pub no : (permitted : ℕ → Bool) → Ready permitted nums here → Allowed permitted cand → None permitted (aimOf here) (partialSum here) cand (length cand) k
 
 -- nor with the mask before r among them, where those from r on were tried
 pub record NoneBefore (nums : List ℕ) (here : Here) (list : List ℕ) (r k : ℕ) : Type 0 where
-  pub no : (permitted : ℕ → Bool) → Ready permitted nums here → Allowed permitted list → Tried permitted (aimOf here) (sumOf here) list (length list) r k
-      → (j : ℕ) → suc j ≡ r → NoneWith permitted (aimOf here) (sumOf here) list r k (getD list j 0)
+  pub no : (permitted : ℕ → Bool) → Ready permitted nums here → Allowed permitted list → Spent permitted (aimOf here) (partialSum here) list (length list) r k
+      → (j : ℕ) → suc j ≡ r → NoneThrough permitted (aimOf here) (partialSum here) list r k (getD list j 0)
 
 -- ---- sums and residues by a mask
 

@@ -4,7 +4,7 @@ ghost use mathlib.Core.Path.{_≡_};
 ghost use mathlib.Core.Bool.{true};
 ghost use Prim.Native.Nat.{_+_, _≤_, _<_};
 ghost use lib.ListN.{length, getD};
-ghost use Rattle.completions.specs.Completing.{Fitting, Split, Joined};
+ghost use Rattle.completions.specs.Completing.{Fitting, Split, Appended};
 
 // Puts those of the candidates that fit what is needed to the front of the list, and answers how many they are.
 pub(crate) fn fitted(need: [u8; 18], nums: &[u8], cand: &[u16], list: &mut [u16; 512]) -> usize
@@ -24,9 +24,9 @@ pub(crate) fn fitted(need: [u8; 18], nums: &[u8], cand: &[u16], list: &mut [u16;
 }
 
 // Puts the first q of the other list behind the first p.
-fn joined(list: &mut [u16; 512], p: usize, other: &[u16; 512], q: usize)
+fn appended(list: &mut [u16; 512], p: usize, other: &[u16; 512], q: usize)
     requires { ⌜ ((p + q) ≤ 512) × (length (now list) ≡ 512) ⌝ }
-    ensures { λ _. ⌜ Joined (now (list .entry)) p (now (other .entry)) q (now (list .exit)) ⌝ }
+    ensures { λ _. ⌜ Appended (now (list .entry)) p (now (other .entry)) q (now (list .exit)) ⌝ }
 {
     let mut t: usize = 0;
     while t < q {
@@ -59,7 +59,7 @@ pub(crate) fn split(
         q += k;
         j += 1;
     }
-    joined(list, p, &other, q);
+    appended(list, p, &other, q);
     p
 }
 

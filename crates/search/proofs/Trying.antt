@@ -13,7 +13,7 @@ use Rattle.rows.specs.Cells.{Same, Sum, AtMask, AtSum}
 use Rattle.edges.specs.Edges.{summed}
 use Rattle.completions.specs.declared.Here.{Here}
 use Rattle.completions.specs.declared.Child.{Child}
-use Rattle.completions.specs.Completing.{Fills, numberIn, aimOf, sumOf, extentsOf}
+use Rattle.completions.specs.Completing.{Fills, numberIn, aimOf, partialSum, extentsOf}
 use Rattle.completions.specs.Opening.{Opened}
 use Rattle.completions.proofs.Stepping.{below-no, below-fills}
 use Rattle.search.specs.Asking.{Led}
@@ -24,7 +24,7 @@ one-each f g [] h = omega arith
 one-each f g (m ∷ L) h = let a = h m (inl refl) in let b = one-each f g L (λ s k. h s (inr k)) in omega arith
 
 module _ (nums cand : List ℕ) (here : Here) (m j : ℕ) (r : Child) (o : Opened nums cand here m j r) where
-  fills : (permitted : ℕ → Bool) (ns : List ℕ) → T (all permitted ns) → Same (aimOf here) (Sum (Sum (sumOf here) (AtMask m)) (AtSum ns)) → Fills permitted (aimOf here) (Sum (sumOf here) (AtMask m)) ns
+  fills : (permitted : ℕ → Bool) (ns : List ℕ) → T (all permitted ns) → Same (aimOf here) (Sum (Sum (partialSum here) (AtMask m)) (AtSum ns)) → Fills permitted (aimOf here) (Sum (partialSum here) (AtMask m)) ns
   fills permitted ns t e = record { masks = In-all permitted ns t; whole = e }
 
   -- what the quick search answered

@@ -10,8 +10,8 @@ use Rattle.rows.specs.Cells.{Same, Sum, At, AtMask, AtOrigin, AtSum}
 use Rattle.edges.specs.Edges.{Number}
 use Rattle.completions.specs.declared.Here.{Here}
 use Rattle.completions.specs.declared.Child.{Child}
-use Rattle.completions.specs.Completing.{Among, numberIn, Masks, Open, aimOf, sumOf, Ready, Below, Allowed}
-use Rattle.completions.specs.Opening.{Room}
+use Rattle.completions.specs.Completing.{Among, numberIn, Masks, Open, aimOf, partialSum, Ready, Below, Allowed}
+use Rattle.completions.specs.Opening.{Roomy}
 use Rattle.search.specs.Tree.{tries, Marks}
 
 -- the marked masks below m are the first n of the list
@@ -47,7 +47,7 @@ pub record Questioned (marks cells need nums cand : List ℕ) : Type 0 where
   pub state : Open (tries marks) (numberIn nums) (At cells) AtOrigin (At cells) need
 
 -- what is kept of a partial sum with k stages to come
-pub record Kept (marks nums cand : List ℕ) (here : Here) (k : ℕ) : Type 0 where
+pub record Underway (marks nums cand : List ℕ) (here : Here) (k : ℕ) : Type 0 where
   pub pool : Pooled marks nums cand
   pub room : here .len + k ≤ 30
   pub state : Ready (tries marks) nums here
@@ -55,6 +55,6 @@ pub record Kept (marks nums cand : List ℕ) (here : Here) (k : ℕ) : Type 0 wh
 -- the partial sum below by the stage m, with j stages after it, or that no j permitted masks lead on from there
 pub record Led (nums cand : List ℕ) (here : Here) (j m : ℕ) (r : Child) : Type 0 where
   pub below : Below nums here m r
-  pub no : r .ok ≡ false → Room nums cand (here .len) j → (permitted : ℕ → Bool) → Ready permitted nums here → Allowed permitted cand
+  pub no : r .ok ≡ false → Roomy nums cand (here .len) j → (permitted : ℕ → Bool) → Ready permitted nums here → Allowed permitted cand
       → ((s : ℕ) → T (permitted s) → Among cand (length cand) s) → T (permitted m)
-      → (ns : List ℕ) → length ns ≡ j → T (all permitted ns) → Same (aimOf here) (Sum (Sum (sumOf here) (AtMask m)) (AtSum ns)) → ⊥
+      → (ns : List ℕ) → length ns ≡ j → T (all permitted ns) → Same (aimOf here) (Sum (Sum (partialSum here) (AtMask m)) (AtSum ns)) → ⊥

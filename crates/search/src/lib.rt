@@ -13,10 +13,10 @@ ghost use lib.ListN.{length, getD};
 ghost use Rattle.masks.specs.Mask.{stage as isStage};
 ghost use Rattle.rows.specs.Cells.{At, AtOrigin};
 ghost use Rattle.extents.specs.Extents.{Greatest, row, column};
-ghost use Rattle.completions.specs.Completing.{aimOf, sumOf};
+ghost use Rattle.completions.specs.Completing.{aimOf, partialSum};
 ghost use Rattle.search.specs.Plans.{Shortest};
-ghost use Rattle.search.specs.Tree.{Answer, NoneWith, tries, Marked};
-ghost use Rattle.search.specs.Asking.{Questioned, Kept, Led};
+ghost use Rattle.search.specs.Tree.{FirstLine, NoneFirst, tries, Candidates};
+ghost use Rattle.search.specs.Asking.{Questioned, Underway, Led};
 
 // Stages that complete a partial sum, the first of k at k − 1.
 struct Line {
@@ -62,8 +62,8 @@ fn tried(here: Here, nums: &[u8], cand: &[u16], j: usize, m: u16) -> Child
 
 // The first list of k stages, none below m, that completes the sum to its target.
 fn node(here: Here, marks: &[u8], nums: &[u8], cand: &[u16], k: usize, m: u16) -> Line
-    requires { ⌜ (m ≤ 512) × Kept (now marks) (now nums) (now cand) here k ⌝ }
-    ensures { λ r. ⌜ Answer (tries (now (marks .entry))) (aimOf here) (sumOf here) k m (r .found) (r .masks) ⌝ }
+    requires { ⌜ (m ≤ 512) × Underway (now marks) (now nums) (now cand) here k ⌝ }
+    ensures { λ r. ⌜ FirstLine (tries (now (marks .entry))) (aimOf here) (partialSum here) k m (r .found) (r .masks) ⌝ }
 {
     if k == 0 {
         return Line {
@@ -89,9 +89,9 @@ fn node(here: Here, marks: &[u8], nums: &[u8], cand: &[u16], k: usize, m: u16) -
 
 // The same with m itself as the first of the k stages.
 fn stage(here: Here, marks: &[u8], nums: &[u8], cand: &[u16], k: usize, m: u16) -> Line
-    requires { ⌜ (0 < k) × (T (tries (now marks) m) × Kept (now marks) (now nums) (now cand) here k) ⌝ }
-    ensures yes { λ r. ⌜ (r .found ≡ true → Answer (tries (now (marks .entry))) (aimOf here) (sumOf here) k m true (r .masks)) ⌝ }
-    ensures no { λ r. ⌜ (r .found ≡ false → NoneWith (tries (now (marks .entry))) (aimOf here) (sumOf here) k m) ⌝ }
+    requires { ⌜ (0 < k) × (T (tries (now marks) m) × Underway (now marks) (now nums) (now cand) here k) ⌝ }
+    ensures yes { λ r. ⌜ (r .found ≡ true → FirstLine (tries (now (marks .entry))) (aimOf here) (partialSum here) k m true (r .masks)) ⌝ }
+    ensures no { λ r. ⌜ (r .found ≡ false → NoneFirst (tries (now (marks .entry))) (aimOf here) (partialSum here) k m) ⌝ }
 {
     let none = Line {
         found: false,
@@ -132,7 +132,7 @@ fn of_length(
     k: usize,
 ) -> Line
     requires { ⌜ (k ≤ 30) × Questioned (now marks) cells need (now nums) (now cand) ⌝ }
-    ensures { λ r. ⌜ Answer (tries (now (marks .entry))) (At cells) AtOrigin k 0 (r .found) (r .masks) ⌝ }
+    ensures { λ r. ⌜ FirstLine (tries (now (marks .entry))) (At cells) AtOrigin k 0 (r .found) (r .masks) ⌝ }
 {
     if !completions::may_sum(cells, need, nums, cand, k) {
         return Line {
@@ -161,7 +161,7 @@ fn by_length(
     nums: &[u8],
     cand: &[u16],
 ) -> Chosen
-    requires { ⌜ (w ≤ 15) × ((h ≤ 15) × ((Greatest column (At cells) w × Greatest row (At cells) h) × (Marked isStage (At cells) 512 (now marks) × Questioned (now marks) cells need (now nums) (now cand)))) ⌝ }
+    requires { ⌜ (w ≤ 15) × ((h ≤ 15) × ((Greatest column (At cells) w × Greatest row (At cells) h) × (Candidates isStage (At cells) 512 (now marks) × Questioned (now marks) cells need (now nums) (now cand)))) ⌝ }
     ensures { λ r. ⌜ Shortest isStage (At cells) (r .found) (r .n) (r .masks) ⌝ }
 {
     let mut k = least_count(w, h);

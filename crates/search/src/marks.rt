@@ -5,12 +5,12 @@ ghost use Prim.Native.Nat.{_+_, _<_};
 ghost use lib.ListN.{length};
 ghost use Rattle.masks.specs.Mask.{stage as isStage};
 ghost use Rattle.rows.specs.Cells.{At};
-ghost use Rattle.search.specs.Tree.{Marks, Mark, Marked};
+ghost use Rattle.search.specs.Tree.{Marks, Candidate, Candidates};
 ghost use Rattle.search.specs.Asking.{Drawn, Stored, Tabled};
 
 // 1 for a stage that leaves the cells equal to (cells ⊖ m) ⊕ m, as each stage of a plan of them does; else 0.
 fn mark(cells: [u16; 16], m: u16) -> u8
-    ensures { λ r. ⌜ Mark isStage (At cells) m r ⌝ }
+    ensures { λ r. ⌜ Candidate isStage (At cells) m r ⌝ }
 {
     if !stages::is_stage(m as u32) {
         return 0;
@@ -22,7 +22,7 @@ fn mark(cells: [u16; 16], m: u16) -> u8
 
 // The marks of all masks.
 pub(crate) fn marked(cells: [u16; 16]) -> [u8; 512]
-    ensures { λ r. ⌜ Marked isStage (At cells) 512 r ⌝ }
+    ensures { λ r. ⌜ Candidates isStage (At cells) 512 r ⌝ }
 {
     let mut marks = [0u8; 512];
     let mut m: u16 = 0;

@@ -11,10 +11,10 @@ use lib.Dec.{eqb→eq}
 use lib.ListN.{length, getD}
 use Rattle.plane.proofs.Tests.{eq-eqb}
 use Rattle.masks.proofs.Cells.{stage-below as mask-below}
-use Rattle.completions.specs.Completing.{aimOf, sumOf}
+use Rattle.completions.specs.Completing.{aimOf, partialSum}
 use Rattle.rows.proofs.Known.{field-length}
 use Rattle.rows.proofs.Sums.{zero-at}
-use Rattle.search.specs.Tree.{Answer, Passed, tries}
+use Rattle.search.specs.Tree.{FirstLine, Narrowed, tries}
 use Rattle.search.proofs.Answers.{at-leaf, passed-none, passed-more, passed-found, passed-all, below-none, below-closed, below-found}
 use Prim.Native.Nat.{ℕ, _+_, _*_, _-_, _≤_, _<_}
 use borrow.Fn.Kinds.{In}
@@ -55,7 +55,7 @@ abbrev stage-claims : ℕ → stage-lts.Claims
 stage-claims t = (tried-reads.Asked, tried-reads.Learnt, node-below t, node.Post)
 
 abbrev node-Inv-loop : node-lts.InvT-loop
-node-Inv-loop here marks nums cand k m i₀ i = (i ≤ 512) × Passed (tries marks) (aimOf here) (sumOf here) k m i
+node-Inv-loop here marks nums cand k m i₀ i = (i ≤ 512) × Narrowed (tries marks) (aimOf here) (partialSum here) k m i
 
 abbrev node-μ-loop : node-lts.MeasureT-loop
 node-μ-loop here marks nums cand k m i₀ i = 512 - i
@@ -70,7 +70,7 @@ node-returns t c =
     let kept = st .pre .1 .1 in
     let room = kept .room in
     let left = kept .state .state .left in
-    at-leaf (tries (now (st .args .marks))) (aimOf h) (sumOf h) (st .args .k) (st .args .m) (c .finished .result) _
+    at-leaf (tries (now (st .args .marks))) (aimOf h) (partialSum h) (st .args .k) (st .args .m) (c .finished .result) _
     (c .before .if1 .taken) (λ e. c .finished .ensures .whole e left) (λ e. c .finished .ensures .part e (omega arith) left) (zero-at 32)
 
 node-loop-holds : (t : ℕ) → node-lts.Need-loop-holds (node-claims t) (node-at t) node.Post node-Inv-loop node-μ-loop
@@ -100,7 +100,7 @@ node-returns-2 t c =
     let h = st .args .here in
     let l = c .before .before .before .before .before .loop in
     let p = c .before .stage in
-    subst (λ (d : Bool). Answer (tries (now (st .args .marks))) (aimOf h) (sumOf h) (st .args .k) (st .args .m) d (p .result .masks)) (sym (c .if3 .taken))
+    subst (λ (d : Bool). FirstLine (tries (now (st .args .marks))) (aimOf h) (partialSum h) (st .args .k) (st .args .m) d (p .result .masks)) (sym (c .if3 .taken))
     (passed-found _ _ _ (st .args .k) (st .args .m) (omega arith) (l .i) _ (l .inv .1) (p .ensures .0 (c .if3 .taken)))
 
 node-add-i : (t : ℕ) → node-lts.Need-add-i (node-claims t) (node-at t) node.Post node-Inv-loop node-μ-loop

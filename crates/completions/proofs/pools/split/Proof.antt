@@ -59,8 +59,8 @@ loop-again c =
     let h = c .before .before .before .loop in
     (omega arith, split-more _ _ _ (h .list) (h .other) (h .p) (h .q) (h .j) _ _ (omega arith) refl (c .having .ensures .0) (c .having .ensures .1) (h .inv .1))
 
-joined-requires : tie.Need-joined-requires Inv-loop μ-loop
-joined-requires c κs =
+appended-requires : tie.Need-appended-requires Inv-loop μ-loop
+appended-requires c κs =
     let h = c .before .before .before .loop .inv .1 in
     let few = h .few in
     (omega arith, h .list-long)
@@ -69,7 +69,7 @@ returns : tie.Need-returns Inv-loop μ-loop
 returns c =
     let h = c .before .before .before .before .loop .inv .1 in
     let few = h .few in
-    let k = c .joined .ensures in
+    let k = c .appended .ensures in
     record {
       all = λ m b a. among-more _ _ _ m (omega arith) (⊎-elim (k .first m) (k .behind m) (h .all m b (among-more _ _ _ m (omega arith) a)));
       only = λ m a. among-more _ _ _ m (omega arith) (h .only m (k .only m (among-more _ _ _ m (omega arith) a)));
@@ -98,5 +98,5 @@ split-spec =
     add-j
     loop-less
     loop-again
-    joined-requires
+    appended-requires
     returns)

@@ -5,13 +5,13 @@ use mathlib.Core.Path.{_≡_, subst}
 use Prim.Native.Nat.{_-_, _≤_}
 use Rattle.masks.specs.Mask.{stage}
 use Rattle.rows.specs.Cells.{At}
-use Rattle.search.specs.Tree.{Marked}
+use Rattle.search.specs.Tree.{Candidates}
 use Rattle.search.proofs.Marking.{marked-none, marked-more}
 use Rattle.search.proofs.marks.marked.Statement.{statement}
 use Rattle.search.proofs.marks.marked.Tie as tie
 
 abbrev Inv-loop : tie.InvT-loop
-Inv-loop cells marks₀ m₀ marks m = (m ≤ 512) × Marked stage (At cells) m marks
+Inv-loop cells marks₀ m₀ marks m = (m ≤ 512) × Candidates stage (At cells) m marks
 
 abbrev μ-loop : tie.MeasureT-loop
 μ-loop cells marks₀ m₀ marks m = 512 - m
@@ -43,7 +43,7 @@ returns : tie.Need-returns Inv-loop μ-loop
 returns c =
     let l = c .before .loop in
     let e : l .m ≡ 512 = (let q = l .inv .0 in omega arith) in
-    subst (λ n. Marked stage (At (c .before .before .args .cells)) n (l .marks)) e (l .inv .1)
+    subst (λ n. Candidates stage (At (c .before .before .args .cells)) n (l .marks)) e (l .inv .1)
 
 pub marked-spec : {M : Type 1} → statement M
 marked-spec =

@@ -2,20 +2,20 @@
 use mathlib.Core.Logic.{inl, inr, ⊎-elim}
 use Prim.Native.Nat.{_≤_, _-_}
 use Rattle.completions.proofs.Loops.{among-more}
-use Rattle.completions.proofs.Drawing.{JoinedTo, joined-none, joined-more}
+use Rattle.completions.proofs.Drawing.{AppendedTo, appended-none, appended-more}
 use borrow.Author.Needs.{needs}
 use native.Mathlib.Omega.{arith}
-use Rattle.completions.proofs.pools.joined.Statement.{statement}
-use Rattle.completions.proofs.pools.joined.Tie as tie
+use Rattle.completions.proofs.pools.appended.Statement.{statement}
+use Rattle.completions.proofs.pools.appended.Tie as tie
 
 abbrev Inv-loop : tie.InvT-loop
-Inv-loop list₀ p other q t₀ list t = (t ≤ q) × JoinedTo list₀ list other p t
+Inv-loop list₀ p other q t₀ list t = (t ≤ q) × AppendedTo list₀ list other p t
 
 abbrev μ-loop : tie.MeasureT-loop
 μ-loop list₀ p other q t₀ list t = q - t
 
 loop-holds : tie.Need-loop-holds Inv-loop μ-loop
-loop-holds c = (omega arith, joined-none _ _ _ (c .pre .1))
+loop-holds c = (omega arith, appended-none _ _ _ (c .pre .1))
 
 mul-list : tie.Need-mul-list Inv-loop μ-loop
 mul-list c = search needs
@@ -39,7 +39,7 @@ loop-less : tie.Need-loop-less Inv-loop μ-loop
 loop-less c = search needs
 
 loop-again : tie.Need-loop-again Inv-loop μ-loop
-loop-again c = (omega arith, joined-more _ _ _ _ _ (omega arith) (c .before .before .loop .inv .1))
+loop-again c = (omega arith, appended-more _ _ _ _ _ (omega arith) (c .before .before .loop .inv .1))
 
 returns : tie.Need-returns Inv-loop μ-loop
 returns c =
@@ -51,8 +51,8 @@ returns c =
       long = h .long;
     }
 
-pub joined-spec : {M : Type 1} → statement M
-joined-spec =
+pub appended-spec : {M : Type 1} → statement M
+appended-spec =
     tie.close
     (tie.spec
     Inv-loop
