@@ -10,7 +10,9 @@ use lib.Seq.{getD-take}
 use Rattle.rows.specs.Cells.{Cells, Sum, At, AtMask, chosen}
 use Rattle.completions.specs.declared.Here.{Here}
 use Rattle.completions.specs.declared.Child.{Child}
-use Rattle.completions.specs.Completing.{Among, None, NoneThrough, Spent, Replaces, numberIn, aimOf, partialSum, Ready, Stepped, Fitting, Split, Allowed, NoneHere, NoneBefore, NoSum}
+use Rattle.completions.specs.declared.Branch.{Branch}
+use Rattle.completions.specs.Completing.{Among, None, NoneThrough, Spent, Replaces, numberIn, aimOf, partialSum, Ready, Stepped, Allowed, NoneHere, NoneBefore, NoSum}
+use Rattle.completions.specs.Pools.{Parts}
 use Rattle.completions.proofs.Loops.{among-more}
 use Rattle.completions.proofs.Stepping.{below-fills}
 use Rattle.completions.proofs.Branches.{spent-none, spent-more, none-below, passed-over, replaced-gone, branch-end, drawn, too-few}
@@ -55,20 +57,24 @@ module _ (nums : List ℕ) (here : Here) (cand : List ℕ) (k : ℕ) where
   }
 
   -- the loop's end: a number is needed that none of those left has
-  module _ (some : List ℕ) (n : ℕ) (fit : Fitting nums (here .need) cand (length cand) some n) (i : ℕ) (list : List ℕ) (p : ℕ) (cut : Split nums some n i list p) where
-    allowed : (permitted : ℕ → Bool) → Allowed permitted cand → Allowed permitted (take n list)
-    allowed permitted a m h = a m (fit .only m (cut .only m (among-more list _ n m (omega (arith, length-take n list, cut .long, fit .room)) (of-part list n (length (take n list)) m (omega (arith, length-take n list)) h))))
+  module _ (list : List ℕ) (b : Branch) (d : Parts nums (here .need) cand list b) where
+    abbrev n : ℕ
+    n = b .count
 
-    pub node-none : (r : ℕ) → i < 18 → 0 < getD (here .need) i 0 → r ≤ p → Turned (take n list) r → NoneHere nums here cand k
-    node-none r l z q t = record {
+    allowed : (permitted : ℕ → Bool) → Allowed permitted cand → Allowed permitted (take n list)
+    allowed permitted a m h = a m (d .only m (among-more list _ n m (omega (arith, length-take n list)) (of-part list n (length (take n list)) m (omega (arith, length-take n list)) h)))
+
+    pub node-none : (r : ℕ) → b .number < 18 → r ≤ b .without → Turned (take n list) r → NoneHere nums here cand k
+    node-none r l q t = record {
       no = λ permitted s a.
-          let order = cut .order in
-          let long = cut .long in
-          let room = fit .room in
+          let order = d .order in
+          let long = d .long in
+          let few = d .few in
+          let room = d .room in
           drawn permitted (aimOf here) Y (take n list) (length (take n list)) k (numberIn nums) (At (here .rest)) (here .need) (s .state) cand (length cand)
-          (λ m g b f. let d = s .known .below m g in to-part list n m (omega arith) (cut .all m d (fit .all m d b f)))
-          (branch-end permitted (aimOf here) Y (take n list) (length (take n list)) k (numberIn nums) (At (here .rest)) (here .need) (s .state) i r l z
-          (λ m g b. cut .without m (s .known .below m g) (among-more list r p m q (of-part list n r m (omega arith) b)))
+          (λ m g c f. to-part list n m (omega arith) (d .all m (s .known .below m g) c f))
+          (branch-end permitted (aimOf here) Y (take n list) (length (take n list)) k (numberIn nums) (At (here .rest)) (here .need) (s .state) (b .number) r l (d .needed)
+          (λ m g c. d .without m (s .known .below m g) (among-more list r (b .without) m q (of-part list n r m (omega arith) c)))
           (t .spent permitted s (allowed permitted a)));
     }
 
@@ -101,8 +107,8 @@ module _ (nums : List ℕ) (here : Here) (list : List ℕ) (r k : ℕ) (r-in : 0
 
   module _ (c : Child) (st : Stepped nums here m c) where
     -- it is passed over
-    pub stage-passed : c .ok ≡ false → NoneBefore nums here list r k
-    stage-passed e = none-of (λ permitted s a t. passed-over permitted (aimOf here) Z list r k m (st .no e permitted s))
+    pub stage-passed : c .ok ≡ false → here .len < 32 → NoneBefore nums here list r k
+    stage-passed e l = none-of (λ permitted s a t. passed-over permitted (aimOf here) Z list r k m (st .no e l permitted s))
 
     -- nothing completes the sum below it
     pub stage-none : c .ok ≡ true → 0 < k → NoneHere nums (c .here) (take r list) (k - 1) → NoneBefore nums here list r k

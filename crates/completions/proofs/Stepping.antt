@@ -73,9 +73,10 @@ below-no nums here m there = record {
   ready = λ e. absurd (false≢true e);
 }
 
-pub stepped-no : (nums : List ℕ) (here : Here) (m : ℕ) → ((permitted : ℕ → Bool) → Ready permitted nums here → T (permitted m) → (L : List ℕ) → Fills permitted (aimOf here) (Sum (partialSum here) (AtMask m)) L → ⊥)
+pub stepped-no : (nums : List ℕ) (here : Here) (m : ℕ)
+    → (here .len < 32 → (permitted : ℕ → Bool) → Ready permitted nums here → T (permitted m) → (L : List ℕ) → Fills permitted (aimOf here) (Sum (partialSum here) (AtMask m)) L → ⊥)
     → Stepped nums here m (record { ok = false; here = here })
-stepped-no nums here m f = record { below = below-no nums here m here; no = λ e. f }
+stepped-no nums here m f = record { outside = λ _. refl; back = λ _. refl; below = below-no nums here m here; no = λ e. f }
 
 module _ (nums : List ℕ) (here : Here) (m : ℕ) where
   abbrev Y : Cells
@@ -151,9 +152,11 @@ module _ (nums : List ℕ) (here : Here) (m : ℕ) where
       }
 
   pub stepped-yes : Rows16 rest → (left need′ : List ℕ) → CutTo (Residue (At rest) (AtMask m)) left → ((i : ℕ) → i < 18 → getD need′ i 0 ≡ getD (here .need) i 0 - numberIn nums i m)
-      → here .len < length (here .path) → getD need′ 16 0 + getD need′ 17 0 < extentsOf here
+      → here .len < 32 → length (here .path) ≡ 32 → getD need′ 16 0 + getD need′ 17 0 < extentsOf here
       → Stepped nums here m (record { ok = true; here = record { target = here .target; rest = left; path = set (here .path) (here .len) m; len = here .len + 1; need = need′ } })
-  stepped-yes known left need′ c g l v = let e = chosen-more (here .path) (here .len) m l in record {
+  stepped-yes known left need′ c g l w v = let e = chosen-more (here .path) (here .len) m (omega arith) in record {
+    outside = λ d. absurd (omega arith);
+    back = λ d. absurd (true≢false d);
     below = record {
       same = λ _. refl;
       longer = λ _. (e, refl);

@@ -97,33 +97,12 @@ pub record Below (nums : List ℕ) (here : Here) (m : ℕ) (r : Child) : Type 0 
   pub falls : r .ok ≡ true → extentsOf (r .here) < extentsOf here
   pub ready : r .ok ≡ true → (permitted : ℕ → Bool) → Ready permitted nums here → T (permitted m) → Ready permitted nums (r .here)
 
--- the state below by the mask m, or that nothing completes the sum with m
+-- the state below by the mask m, or that nothing completes the sum with m, with the state as it was; a path of 32 has no room for m
 pub record Stepped (nums : List ℕ) (here : Here) (m : ℕ) (r : Child) : Type 0 where
+  pub outside : 32 ≤ here .len → r .ok ≡ false
+  pub back : r .ok ≡ false → r .here ≡ here
   pub below : Below nums here m r
-  pub no : r .ok ≡ false → (permitted : ℕ → Bool) → Ready permitted nums here → T (permitted m) → (L : List ℕ) → Fills permitted (aimOf here) (Sum (partialSum here) (AtMask m)) L → ⊥
-
--- of xs, those of the first n that fit what is needed are among the first n′ of xs′
-pub record Fitting (nums need xs : List ℕ) (n : ℕ) (xs′ : List ℕ) (n′ : ℕ) : Type 0 where
-  pub all : (m : ℕ) → m < 512 → Among xs n m → Fit (numberIn nums) need m → Among xs′ n′ m
-  pub only : (m : ℕ) → Among xs′ n′ m → Among xs n m
-  pub few : n′ ≤ n
-  pub room : n′ ≤ 512
-
--- the first n of xs are the first n of xs′, of which the first p are without number i
-pub record Split (nums xs : List ℕ) (n i : ℕ) (xs′ : List ℕ) (p : ℕ) : Type 0 where
-  pub all : (m : ℕ) → m < 512 → Among xs n m → Among xs′ n m
-  pub only : (m : ℕ) → Among xs′ n m → Among xs n m
-  pub without : (m : ℕ) → m < 512 → Among xs′ p m → numberIn nums i m ≡ 0
-  pub order : p ≤ n
-  pub long : length xs′ ≡ 512
-
--- xs has the first p of list and then the first q of other
-pub record Appended (list : List ℕ) (p : ℕ) (other : List ℕ) (q : ℕ) (xs : List ℕ) : Type 0 where
-  pub first : (m : ℕ) → Among list p m → Among xs (p + q) m
-  pub behind : (m : ℕ) → Among other q m → Among xs (p + q) m
-  pub back : (m : ℕ) → Among xs p m → Among list p m
-  pub only : (m : ℕ) → Among xs (p + q) m → Among list p m ⊎ Among other q m
-  pub long : length xs ≡ 512
+  pub no : r .ok ≡ false → here .len < 32 → (permitted : ℕ → Bool) → Ready permitted nums here → T (permitted m) → (L : List ℕ) → Fills permitted (aimOf here) (Sum (partialSum here) (AtMask m)) L → ⊥
 
 -- each mask of a list is permitted
 abbrev pub Allowed : (ℕ → Bool) → List ℕ → Type 0

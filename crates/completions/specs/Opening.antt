@@ -11,18 +11,17 @@ use Rattle.completions.specs.declared.Here.{Here}
 use Rattle.completions.specs.declared.Child.{Child}
 use Rattle.completions.specs.Completing.{Fills, From, aimOf, partialSum, Ready, Below, Allowed}
 
--- there is room for a table of 512 masks, a list of as many, and a path of 32 with k masks after the next
-pub record Roomy (nums cand : List ℕ) (len k : ℕ) : Type 0 where
-  pub table : length nums ≡ 9216
+-- there is room for a list of 512 masks, and a path of 32 with k masks after the next
+pub record Roomy (cand : List ℕ) (len k : ℕ) : Type 0 where
   pub list : length cand ≤ 512
   pub path : len + k < 32
 
 -- the partial sum below by the mask m, or that k masks of the list or fewer do not complete the sum with m, with the state as it was
 pub record Opened (nums cand : List ℕ) (here : Here) (m k : ℕ) (r : Child) : Type 0 where
-  pub outside : (Roomy nums cand (here .len) k → ⊥) → r .ok ≡ false
+  pub outside : (Roomy cand (here .len) k → ⊥) → r .ok ≡ false
   pub back : r .ok ≡ false → r .here ≡ here
   pub below : Below nums here m r
-  pub no : r .ok ≡ false → Roomy nums cand (here .len) k → (permitted : ℕ → Bool) → Ready permitted nums here → Allowed permitted cand → T (permitted m)
+  pub no : r .ok ≡ false → Roomy cand (here .len) k → (permitted : ℕ → Bool) → Ready permitted nums here → Allowed permitted cand → T (permitted m)
       → (L : List ℕ) → Fills permitted (aimOf here) (Sum (partialSum here) (AtMask m)) L → From cand (length cand) L → length L ≤ k → ⊥
 
 -- whether the masks of the path, 32 at most, sum to the target, where rest is the residue

@@ -28,10 +28,17 @@ pub struct Child {
     pub here: Here,
 }
 
+// What a list was divided by: a number, or 18; how many masks of the list are without it, and how many there are.
+pub struct Branch {
+    pub number: usize,
+    pub without: usize,
+    pub count: usize,
+}
+
 // Whether k masks of the list or fewer may complete the sum; false says that none do. Some number is needed still: the masks that have it are tried, from the
 // last, each over the list up to it, since what completes the sum has it or has it not.
-fn node(here: Here, nums: &[u8], cand: &[u16], k: usize) -> bool
-    requires { ⌜ ((here .len + k) ≤ 32) × ((length (now nums) ≡ 9216) × (length (now cand) ≤ 512)) ⌝ }
+fn node(here: Here, nums: &[u8; 9216], cand: &[u16], k: usize) -> bool
+    requires { ⌜ ((here .len + k) ≤ 32) × (length (now cand) ≤ 512) ⌝ }
     ensures { λ r. ⌜ (r ≡ false → NoneHere (now (nums .entry)) here (now (cand .entry)) k) ⌝ }
 {
     let need = here.need;
@@ -48,15 +55,13 @@ fn node(here: Here, nums: &[u8], cand: &[u16], k: usize) -> bool
     if 2 * k < h {
         return false;
     }
-    let mut fit = [0u16; 512];
-    let n = pools::fitted(need, nums, cand, &mut fit);
-    let count = pools::tally(nums, &fit, n);
-    let i = pools::scarce(need, count);
-    if i == 18 {
+    let mut list = [0u16; 512];
+    let b = pools::divided(need, nums, cand, &mut list);
+    if b.number == 18 {
         return true;
     }
-    let mut list = [0u16; 512];
-    let p = pools::split(nums, i, &fit, n, &mut list);
+    let n = b.count;
+    let p = b.without;
     let mut r = n;
     while p < r {
         if stage(here, nums, &list[0..n], r, k) {
@@ -68,8 +73,8 @@ fn node(here: Here, nums: &[u8], cand: &[u16], k: usize) -> bool
 }
 
 // The same with the mask before r among them, over the list up to it, where those from r on were tried.
-fn stage(here: Here, nums: &[u8], list: &[u16], r: usize, k: usize) -> bool
-    requires { ⌜ (0 < k) × (((here .len + k) ≤ 32) × ((length (now nums) ≡ 9216) × ((0 < r) × ((r ≤ length (now list)) × (length (now list) ≤ 512))))) ⌝ }
+fn stage(here: Here, nums: &[u8; 9216], list: &[u16], r: usize, k: usize) -> bool
+    requires { ⌜ (0 < k) × (((here .len + k) ≤ 32) × ((0 < r) × ((r ≤ length (now list)) × (length (now list) ≤ 512)))) ⌝ }
     ensures { λ b. ⌜ (b ≡ false → NoneBefore (now (nums .entry)) here (now (list .entry)) r k) ⌝ }
 {
     let m = list[r - 1];
@@ -86,13 +91,10 @@ fn stage(here: Here, nums: &[u8], list: &[u16], r: usize, k: usize) -> bool
 }
 
 // Whether k masks of the list or fewer may sum to the cells; false says that none do. nums has eighteen numbers for each mask, and need those of the cells.
-pub fn may_sum(cells: [u16; 16], need: [u8; 18], nums: &[u8], cand: &[u16], k: usize) -> bool
+pub fn may_sum(cells: [u16; 16], need: [u8; 18], nums: &[u8; 9216], cand: &[u16], k: usize) -> bool
     ensures { λ r. ⌜ (r ≡ false → NoSum cells need (now (nums .entry)) (now (cand .entry)) k) ⌝ }
 {
     if 32 < k {
-        return true;
-    }
-    if nums.len() != 9216 {
         return true;
     }
     if 512 < cand.len() {
@@ -109,14 +111,11 @@ pub fn may_sum(cells: [u16; 16], need: [u8; 18], nums: &[u8], cand: &[u16], k: u
     node(here, nums, cand, k)
 }
 
-// Whether a table of n numbers, a list of c masks and a path of len with k masks after the next are within bounds.
-fn roomy(n: usize, c: usize, len: usize, k: usize) -> bool
-    ensures yes { λ r. ⌜ (r ≡ true → (n ≡ 9216) × ((c ≤ 512) × ((len + k) < 32))) ⌝ }
-    ensures no { λ r. ⌜ (r ≡ false → n ≡ 9216 → c ≤ 512 → (len + k) < 32 → ⊥) ⌝ }
+// Whether a list of c masks and a path of len with k masks after the next are within bounds.
+fn roomy(c: usize, len: usize, k: usize) -> bool
+    ensures yes { λ r. ⌜ (r ≡ true → (c ≤ 512) × ((len + k) < 32)) ⌝ }
+    ensures no { λ r. ⌜ (r ≡ false → c ≤ 512 → (len + k) < 32 → ⊥) ⌝ }
 {
-    if n != 9216 {
-        return false;
-    }
     if 512 < c {
         return false;
     }
@@ -127,7 +126,7 @@ fn roomy(n: usize, c: usize, len: usize, k: usize) -> bool
 }
 
 // The partial sum below by the mask m, where k masks of the list or fewer may complete it.
-pub fn opened(here: Here, nums: &[u8], cand: &[u16], m: u16, k: usize) -> Child
+pub fn opened(here: Here, nums: &[u8; 9216], cand: &[u16], m: u16, k: usize) -> Child
     ensures { λ r. ⌜ Opened (now (nums .entry)) (now (cand .entry)) here m k r ⌝ }
 {
     let none = Child {
@@ -135,7 +134,7 @@ pub fn opened(here: Here, nums: &[u8], cand: &[u16], m: u16, k: usize) -> Child
         here: here,
     };
     let len = here.len;
-    if !roomy(nums.len(), cand.len(), len, k) {
+    if !roomy(cand.len(), len, k) {
         return none;
     }
     let c = steps::step(here, nums, m);

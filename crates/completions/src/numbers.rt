@@ -2,7 +2,7 @@
 ghost use mathlib.Core.Path.{_≡_};
 ghost use mathlib.Core.Bool.{true, false};
 ghost use Prim.Native.Nat.{ℕ, _-_, _≤_, _<_, max};
-ghost use lib.ListN.{length, getD};
+ghost use lib.ListN.{getD};
 ghost use Rattle.completions.specs.Completing.{numberIn, Fit};
 
 // a - b, or 0 where b is the greater.
@@ -19,12 +19,15 @@ fn greater(a: u8, b: u8) -> u8
     if a < b { b } else { a }
 }
 
-// Whether no number of m is above what is needed. The loop always runs to its end, so that the numbers are held against each other together.
-pub(crate) fn fits(need: [u8; 18], nums: &[u8], m: u16) -> bool
-    requires { ⌜ (m < 512) × (length (now nums) ≡ 9216) ⌝ }
-    ensures yes { λ r. ⌜ (r ≡ true → Fit (numberIn (now (nums .entry))) need m) ⌝ }
-    ensures no { λ r. ⌜ (r ≡ false → Fit (numberIn (now (nums .entry))) need m → ⊥) ⌝ }
+// Whether m is one of the 512 masks and no number of it is above what is needed. The loop always runs to its end, so that the numbers are held against each
+// other together.
+pub(crate) fn fits(need: [u8; 18], nums: &[u8; 9216], m: u16) -> bool
+    ensures yes { λ r. ⌜ (r ≡ true → (m < 512) × Fit (numberIn (now (nums .entry))) need m) ⌝ }
+    ensures no { λ r. ⌜ (r ≡ false → m < 512 → Fit (numberIn (now (nums .entry))) need m → ⊥) ⌝ }
 {
+    if 512 <= m {
+        return false;
+    }
     let at = (m as usize) * 18;
     let mut over: u8 = 0;
     let mut i: usize = 0;
@@ -35,11 +38,14 @@ pub(crate) fn fits(need: [u8; 18], nums: &[u8], m: u16) -> bool
     over == 0
 }
 
-// What is needed after m.
-pub(crate) fn less(need: [u8; 18], nums: &[u8], m: u16) -> [u8; 18]
-    requires { ⌜ (m < 512) × (length (now nums) ≡ 9216) ⌝ }
-    ensures { λ r. ⌜ ((i : ℕ) → i < 18 → getD r i 0 ≡ getD need i 0 - numberIn (now (nums .entry)) i m) ⌝ }
+// What is needed after m; where m is none of the 512 masks, what was needed.
+pub(crate) fn less(need: [u8; 18], nums: &[u8; 9216], m: u16) -> [u8; 18]
+    ensures after { λ r. ⌜ (m < 512 → (i : ℕ) → i < 18 → getD r i 0 ≡ getD need i 0 - numberIn (now (nums .entry)) i m) ⌝ }
+    ensures outside { λ r. ⌜ (512 ≤ m → r ≡ need) ⌝ }
 {
+    if 512 <= m {
+        return need;
+    }
     let at = (m as usize) * 18;
     let mut r = need;
     let mut i: usize = 0;
@@ -51,20 +57,16 @@ pub(crate) fn less(need: [u8; 18], nums: &[u8], m: u16) -> [u8; 18]
 }
 
 // 1 where m is one of the 512 masks and fits what is needed, else 0.
-pub(crate) fn fitting(need: [u8; 18], nums: &[u8], m: u16) -> usize
-    requires { ⌜ length (now nums) ≡ 9216 ⌝ }
-    ensures { λ r. ⌜ (r ≤ 1) × (m < 512 → Fit (numberIn (now (nums .entry))) need m → 1 ≤ r) ⌝ }
+pub(crate) fn fitting(need: [u8; 18], nums: &[u8; 9216], m: u16) -> usize
+    ensures { λ r. ⌜ (r ≤ 1) × ((1 ≤ r → (m < 512) × Fit (numberIn (now (nums .entry))) need m) × (m < 512 → Fit (numberIn (now (nums .entry))) need m → 1 ≤ r)) ⌝ }
 {
-    if 512 <= m {
-        return 0;
-    }
     if fits(need, nums, m) { 1 } else { 0 }
 }
 
 // 1 where the mask has number i, else 0.
-pub(crate) fn having(nums: &[u8], i: usize, m: u16) -> usize
-    requires { ⌜ (length (now nums) ≡ 9216) × (i < 18) ⌝ }
-    ensures { λ r. ⌜ (r ≤ 1) × (r ≡ 0 → m < 512 → numberIn (now (nums .entry)) i m ≡ 0) ⌝ }
+pub(crate) fn having(nums: &[u8; 9216], i: usize, m: u16) -> usize
+    requires { ⌜ i < 18 ⌝ }
+    ensures { λ r. ⌜ (r ≤ 1) × ((1 ≤ r → 0 < numberIn (now (nums .entry)) i m) × (r ≡ 0 → m < 512 → numberIn (now (nums .entry)) i m ≡ 0)) ⌝ }
 {
     if 512 <= m {
         return 0;

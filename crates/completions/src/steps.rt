@@ -103,17 +103,17 @@ pub fn finished(here: Here) -> bool
     rows::same(target, sum)
 }
 
-// The partial sum below by the mask m. It is passed over where a number of m is above what is needed, where it gains nothing in width or height or what it leaves has not
-// the extents that are needed then, or where the target differs from (target ⊖ sum) ⊕ sum.
-pub(crate) fn step(here: Here, nums: &[u8], m: u16) -> Child
-    requires { ⌜ (here .len < 32) × (length (now nums) ≡ 9216) ⌝ }
+// The partial sum below by the mask m. It is passed over where a number of m is above what is needed, where it gains nothing in width or height or what it
+// leaves has not the extents that are needed then, or where the target differs from (target ⊖ sum) ⊕ sum. A path of 32 masks has no room for one more.
+pub(crate) fn step(here: Here, nums: &[u8; 9216], m: u16) -> Child
     ensures { λ r. ⌜ Stepped (now (nums .entry)) here m r ⌝ }
 {
     let none = Child {
         ok: false,
         here: here,
     };
-    if 512 <= m {
+    let len = here.len;
+    if 32 <= len {
         return none;
     }
     let need = here.need;
@@ -123,7 +123,6 @@ pub(crate) fn step(here: Here, nums: &[u8], m: u16) -> Child
     let target = here.target;
     let rest = here.rest;
     let path = here.path;
-    let len = here.len;
     let t = by_mask::shrunk(rest, m);
     let left = numbers::less(need, nums, m);
     if !reaches(t, need, left) {
@@ -160,7 +159,8 @@ fn replaces(t: [u16; 16], own: [u16; 16], m: u16, b: u16) -> bool
 
 // The first of the list from r on that replaces m, or the list's length.
 pub(crate) fn replaced(t: [u16; 16], list: &[u16], r: usize, m: u16) -> usize
-    ensures { λ p. ⌜ (p < length (now (list .entry)) → (r ≤ p) × ((i j : ℕ) → AtMask m i j → Replaces (At t) m (getD (now (list .entry)) p 0))) ⌝ }
+    ensures bound { λ p. ⌜ p ≤ length (now (list .entry)) ⌝ }
+    ensures one { λ p. ⌜ (p < length (now (list .entry)) → (r ≤ p) × ((i j : ℕ) → AtMask m i j → Replaces (At t) m (getD (now (list .entry)) p 0))) ⌝ }
 {
     let own = by_mask::shrunk(t, m);
     let mut p = r;

@@ -160,7 +160,7 @@ module _ (permitted : ℕ → Bool) (nums cand : List ℕ) (here : Here) (k m : 
   Y = partialSum here
 
   -- no list has m first
-  pub below-none : r .ok ≡ false → Roomy nums cand (here .len) (k - 1) → Ready permitted nums here → Allowed permitted cand → ((s : ℕ) → T (permitted s) → Among cand (length cand) s)
+  pub below-none : r .ok ≡ false → Roomy cand (here .len) (k - 1) → Ready permitted nums here → Allowed permitted cand → ((s : ℕ) → T (permitted s) → Among cand (length cand) s)
       → T (permitted m) → NoneFirst permitted (aimOf here) Y k m
   below-none e room s a every pm ns l c = b .no e room permitted s a every pm ns l (c .stages) (c .sum)
 

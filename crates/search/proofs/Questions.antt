@@ -111,7 +111,6 @@ module _ (marks cells : List ℕ) (M : Candidates stage (At cells) 512 marks) wh
       record {
         pool = record {
           marked = marks-of stage (At cells) (λ m t. t) marks M;
-          table = h .long;
           few = omega (arith, length-take n list);
           allowed = λ m a. d .only m (whole m a);
           all = λ m t. to-part list n m (omega arith) (d .all m (stage-below m (is-stage m t)) t);

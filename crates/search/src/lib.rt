@@ -9,7 +9,7 @@ ghost use mathlib.Core.Path.{_≡_};
 ghost use mathlib.Core.Bool.{true, false};
 ghost use Prim.Native.Nat.{_+_, _≤_, _<_, max, _/_};
 ghost use lib.Dec.{T, ltb};
-ghost use lib.ListN.{length, getD};
+ghost use lib.ListN.{getD};
 ghost use Rattle.masks.specs.Mask.{stage as isStage};
 ghost use Rattle.rows.specs.Cells.{At, AtOrigin};
 ghost use Rattle.extents.specs.Extents.{Greatest, row, column};
@@ -17,6 +17,14 @@ ghost use Rattle.completions.specs.Completing.{aimOf, partialSum};
 ghost use Rattle.search.specs.Plans.{Shortest};
 ghost use Rattle.search.specs.Tree.{FirstLine, NoneFirst, tries, Candidates};
 ghost use Rattle.search.specs.Asking.{Questioned, Underway, Led};
+
+// What the search starts with: a mark for each mask, the n marked masks as a list, and a table with eighteen numbers for each mask.
+pub struct Pool {
+    pub marks: [u8; 512],
+    pub list: [u16; 512],
+    pub n: usize,
+    pub nums: [u8; 9216],
+}
 
 // Stages that complete a partial sum, the first of k at k − 1.
 struct Line {
@@ -42,7 +50,7 @@ fn too_many(need: [u8; 18], j: usize) -> bool
 
 // The partial sum below by the stage m, with j stages after it. It is passed over where the extents that are needed are fewer than the stages left, or where the
 // quick search says that nothing completes it.
-fn tried(here: Here, nums: &[u8], cand: &[u16], j: usize, m: u16) -> Child
+fn tried(here: Here, nums: &[u8; 9216], cand: &[u16], j: usize, m: u16) -> Child
     ensures { λ r. ⌜ Led (now (nums .entry)) (now (cand .entry)) here j m r ⌝ }
 {
     let c = completions::opened(here, nums, cand, m, j);
@@ -61,7 +69,7 @@ fn tried(here: Here, nums: &[u8], cand: &[u16], j: usize, m: u16) -> Child
 }
 
 // The first list of k stages, none below m, that completes the sum to its target.
-fn node(here: Here, marks: &[u8], nums: &[u8], cand: &[u16], k: usize, m: u16) -> Line
+fn node(here: Here, marks: &[u8; 512], nums: &[u8; 9216], cand: &[u16], k: usize, m: u16) -> Line
     requires { ⌜ (m ≤ 512) × Underway (now marks) (now nums) (now cand) here k ⌝ }
     ensures { λ r. ⌜ FirstLine (tries (now (marks .entry))) (aimOf here) (partialSum here) k m (r .found) (r .masks) ⌝ }
 {
@@ -88,7 +96,7 @@ fn node(here: Here, marks: &[u8], nums: &[u8], cand: &[u16], k: usize, m: u16) -
 }
 
 // The same with m itself as the first of the k stages.
-fn stage(here: Here, marks: &[u8], nums: &[u8], cand: &[u16], k: usize, m: u16) -> Line
+fn stage(here: Here, marks: &[u8; 512], nums: &[u8; 9216], cand: &[u16], k: usize, m: u16) -> Line
     requires { ⌜ (0 < k) × (T (tries (now marks) m) × Underway (now marks) (now nums) (now cand) here k) ⌝ }
     ensures yes { λ r. ⌜ (r .found ≡ true → FirstLine (tries (now (marks .entry))) (aimOf here) (partialSum here) k m true (r .masks)) ⌝ }
     ensures no { λ r. ⌜ (r .found ≡ false → NoneFirst (tries (now (marks .entry))) (aimOf here) (partialSum here) k m) ⌝ }
@@ -125,9 +133,9 @@ fn least_count(w: usize, h: usize) -> usize
 // The first list of k stages that sums to the cells. The quick search is asked first whether there may be one.
 fn of_length(
     cells: [u16; 16],
-    marks: &[u8],
+    marks: &[u8; 512],
     need: [u8; 18],
-    nums: &[u8],
+    nums: &[u8; 9216],
     cand: &[u16],
     k: usize,
 ) -> Line
@@ -156,9 +164,9 @@ fn by_length(
     cells: [u16; 16],
     w: usize,
     h: usize,
-    marks: &[u8],
+    marks: &[u8; 512],
     need: [u8; 18],
-    nums: &[u8],
+    nums: &[u8; 9216],
     cand: &[u16],
 ) -> Chosen
     requires { ⌜ (w ≤ 15) × ((h ≤ 15) × ((Greatest column (At cells) w × Greatest row (At cells) h) × (Candidates isStage (At cells) 512 (now marks) × Questioned (now marks) cells need (now nums) (now cand)))) ⌝ }
@@ -189,12 +197,11 @@ fn deepening(cells: [u16; 16], w: usize, h: usize) -> Chosen
     requires { ⌜ (w ≤ 15) × ((h ≤ 15) × (Greatest column (At cells) w × Greatest row (At cells) h)) ⌝ }
     ensures { λ r. ⌜ Shortest isStage (At cells) (r .found) (r .n) (r .masks) ⌝ }
 {
-    let marked = marks::marked(cells);
-    let d = marks::listed(&marked);
-    let list = d.list;
-    let n = d.n;
-    let mut nums = [0u8; 9216];
-    marks::tabled(&marked, &mut nums);
+    let p = marks::pooled(cells);
+    let marks = p.marks;
+    let list = p.list;
+    let n = p.n;
+    let nums = p.nums;
     let need = edges::numbers(cells, 16);
     if !completions::may_sum(cells, need, &nums, &list[0..n], w + h) {
         return Chosen {
@@ -203,7 +210,7 @@ fn deepening(cells: [u16; 16], w: usize, h: usize) -> Chosen
             masks: [0; 32],
         };
     }
-    by_length(cells, w, h, &marked, need, &nums, &list[0..n])
+    by_length(cells, w, h, &marks, need, &nums, &list[0..n])
 }
 
 // The fewest stages that sum to the cells, of several such lists the first in order, or that no list of stages does. Where a face of the cells is none that a sum

@@ -1,4 +1,5 @@
 // What the search starts with: which masks can be in a list that sums to the cells at all, the same as a list, and a table of their numbers.
+use super::Pool;
 use rows::by_mask;
 ghost use mathlib.Core.Path.{_≡_};
 ghost use Prim.Native.Nat.{_+_, _<_};
@@ -6,7 +7,7 @@ ghost use lib.ListN.{length};
 ghost use Rattle.masks.specs.Mask.{stage as isStage};
 ghost use Rattle.rows.specs.Cells.{At};
 ghost use Rattle.search.specs.Tree.{Marks, Candidate, Candidates};
-ghost use Rattle.search.specs.Asking.{Drawn, Stored, Tabled};
+ghost use Rattle.search.specs.Asking.{Drawn, Stored, Tabled, Stocked};
 
 // 1 for a stage that leaves the cells equal to (cells ⊖ m) ⊕ m, as each stage of a plan of them does; else 0.
 fn mark(cells: [u16; 16], m: u16) -> u8
@@ -21,7 +22,7 @@ fn mark(cells: [u16; 16], m: u16) -> u8
 }
 
 // The marks of all masks.
-pub(crate) fn marked(cells: [u16; 16]) -> [u8; 512]
+fn marked(cells: [u16; 16]) -> [u8; 512]
     ensures { λ r. ⌜ Candidates isStage (At cells) 512 r ⌝ }
 {
     let mut marks = [0u8; 512];
@@ -34,13 +35,13 @@ pub(crate) fn marked(cells: [u16; 16]) -> [u8; 512]
 }
 
 // Masks in a list, the first n.
-pub(crate) struct Tries {
-    pub list: [u16; 512],
-    pub n: usize,
+struct Tries {
+    list: [u16; 512],
+    n: usize,
 }
 
 // The masks that are marked.
-pub(crate) fn listed(marks: &[u8]) -> Tries
+fn listed(marks: &[u8]) -> Tries
     requires { ⌜ length (now marks) ≡ 512 ⌝ }
     ensures { λ r. ⌜ Drawn (now (marks .entry)) 512 (r .list) (r .n) ⌝ }
 {
@@ -83,7 +84,7 @@ fn entered(marks: &[u8], table: &mut [u8], m: u16)
 }
 
 // Fills the table with the numbers of the masks that are marked.
-pub(crate) fn tabled(marks: &[u8], table: &mut [u8])
+fn tabled(marks: &[u8], table: &mut [u8])
     requires { ⌜ Marks (now marks) × (length (now table) ≡ 9216) ⌝ }
     ensures { λ _. ⌜ Tabled (now (marks .entry)) 512 (now (table .exit)) ⌝ }
 {
@@ -91,5 +92,22 @@ pub(crate) fn tabled(marks: &[u8], table: &mut [u8])
     while m < 512 {
         entered(marks, table, m);
         m += 1;
+    }
+}
+
+// The marks for the cells, the marked masks as a list, and the table of their numbers.
+pub(crate) fn pooled(cells: [u16; 16]) -> Pool
+    ensures { λ r. ⌜ Stocked cells r ⌝ }
+{
+    let marks = marked(cells);
+    let d = listed(&marks);
+    let list = d.list;
+    let mut nums = [0u8; 9216];
+    tabled(&marks, &mut nums);
+    Pool {
+        marks: marks,
+        list: list,
+        n: d.n,
+        nums: nums,
     }
 }

@@ -19,12 +19,9 @@ use Rattle.completions.proofs.+node+stage.Lts-node as node-lts
 use Rattle.completions.proofs.stage.Reads as stage
 use Rattle.completions.proofs.stage.Kinds as stage-kinds
 use Rattle.completions.proofs.+node+stage.Lts-stage as stage-lts
-use Rattle.completions.proofs.pools.fitted.Reads as fitted-reads
+use Rattle.completions.proofs.pools.divided.Reads as divided-reads
 use Rattle.completions.proofs.steps.replaced.Reads as replaced-reads
-use Rattle.completions.proofs.pools.scarce.Reads as scarce-reads
-use Rattle.completions.proofs.pools.split.Reads as split-reads
 use Rattle.completions.proofs.steps.step.Reads as step-reads
-use Rattle.completions.proofs.pools.tally.Reads as tally-reads
 use Rattle.completions.proofs.+node+stage.{statement}
 use Rattle.completions.proofs.+node+stage.Tie.{close}
 
@@ -47,16 +44,16 @@ abbrev stage-below : ℕ → In 2 stage-kinds.ps
 stage-below t = and 2 stage-kinds.ps (falls 2 stage-kinds.ps _<_ μ-stage t) stage.Pre
 
 abbrev node-claims : ℕ → node-lts.Claims
-node-claims t = (fitted-reads.Asked, fitted-reads.Learnt, tally-reads.Asked, tally-reads.Learnt, scarce-reads.Asked, scarce-reads.Learnt, split-reads.Asked, split-reads.Learnt, stage-below t, stage.Post)
+node-claims t = (divided-reads.Asked, divided-reads.Learnt, stage-below t, stage.Post)
 
 abbrev stage-claims : ℕ → stage-lts.Claims
 stage-claims t = (replaced-reads.Asked, replaced-reads.Learnt, step-reads.Asked, step-reads.Learnt, node-below t, node.Post)
 
 abbrev node-Inv-loop : node-lts.InvT-loop
-node-Inv-loop here nums cand k w h n i list p r₀ r = (p ≤ r) × ((r ≤ n) × Turned nums here cand k (take n list) r)
+node-Inv-loop here nums cand k w h list n p r₀ r = (p ≤ r) × ((r ≤ n) × Turned nums here cand k (take n list) r)
 
 abbrev node-μ-loop : node-lts.MeasureT-loop
-node-μ-loop here nums cand k w h n i list p r₀ r = r
+node-μ-loop here nums cand k w h list n p r₀ r = r
 
 node-array-read-w : (t : ℕ) → node-lts.Need-array-read-w (node-claims t) (node-at t) node.Post node-Inv-loop node-μ-loop
 node-array-read-w t c = search needs
@@ -85,39 +82,23 @@ node-mul-if4 t c = search needs
 node-returns-3 : (t : ℕ) → node-lts.Need-returns-3 (node-claims t) (node-at t) node.Post node-Inv-loop node-μ-loop
 node-returns-3 t c = λ e. too-high _ _ _ _ (c .if4 .taken)
 
-node-fitted-requires : (t : ℕ) → node-lts.Need-fitted-requires (node-claims t) (node-at t) node.Post node-Inv-loop node-μ-loop
-node-fitted-requires t c κs =
-    let st = c .before .before .before .before .before .before .before in
-    (st .pre .1 .1 .0, (st .pre .1 .1 .1, refl))
-
-node-tally-requires : (t : ℕ) → node-lts.Need-tally-requires (node-claims t) (node-at t) node.Post node-Inv-loop node-μ-loop
-node-tally-requires t c κs = search needs
-
-node-scarce-requires : (t : ℕ) → node-lts.Need-scarce-requires (node-claims t) (node-at t) node.Post node-Inv-loop node-μ-loop
-node-scarce-requires t c κs = search needs
+node-divided-requires : (t : ℕ) → node-lts.Need-divided-requires (node-claims t) (node-at t) node.Post node-Inv-loop node-μ-loop
+node-divided-requires t c κs = search needs
 
 node-returns-4 : (t : ℕ) → node-lts.Need-returns-4 (node-claims t) (node-at t) node.Post node-Inv-loop node-μ-loop
 node-returns-4 t c = λ e. absurd (true≢false e)
 
-node-split-requires : (t : ℕ) → node-lts.Need-split-requires (node-claims t) (node-at t) node.Post node-Inv-loop node-μ-loop
-node-split-requires t c κs =
-    let fit = c .before .before .before .before .before .before .fitted .ensures in
-    let room = fit .room in
-    let st = c .before .before .before .before .before .before .before .before .before .before .before .before .before .before in
-    let i = c .before .before .before .scarce .ensures in
-    (st .pre .1 .1 .0, (omega arith, (omega arith, refl)))
-
 node-loop-holds : (t : ℕ) → node-lts.Need-loop-holds (node-claims t) (node-at t) node.Post node-Inv-loop node-μ-loop
 node-loop-holds t c =
-    let s = c .split in
-    let list = s .last .1 .1 .1 .1 .0 in
-    let n = c .before .before .before .before .before .before .before .fitted .result in
-    let fit = c .before .before .before .before .before .before .before .fitted .ensures in
-    let room = fit .room in
-    let fewer = fit .few in
-    let long = s .ensures .long in
-    let order = s .ensures .order in
-    (order, (omega arith, turned-none _ _ _ _ (take n list) _ (omega (arith, length-take n list))))
+    let d = c .before .before .divided in
+    let list = d .last .1 .1 .1 .0 in
+    let n = d .result .count in
+    let bound = d .ensures .bound in
+    let parts = d .ensures .parts (let g = c .if5 .left in omega arith) refl in
+    let long = parts .long in
+    let few = parts .few in
+    let room = parts .room in
+    (parts .order, (omega arith, turned-none _ _ _ _ (take n list) _ (omega (arith, length-take n list))))
 
 node-sub-stage : (t : ℕ) → node-lts.Need-sub-stage (node-claims t) (node-at t) node.Post node-Inv-loop node-μ-loop
 node-sub-stage t c = search needs
@@ -127,33 +108,32 @@ node-part-stage-start t c = search needs
 
 node-part-stage-end : (t : ℕ) → node-lts.Need-part-stage-end (node-claims t) (node-at t) node.Post node-Inv-loop node-μ-loop
 node-part-stage-end t c =
-    let s = c .before .before .before .split in
-    let list = s .last .1 .1 .1 .1 .0 in
-    let n = c .before .before .before .before .before .before .before .before .before .before .fitted .result in
-    let fit = c .before .before .before .before .before .before .before .before .before .before .fitted .ensures in
-    let room = fit .room in
-    let fewer = fit .few in
-    let long = s .ensures .long in
-    let order = s .ensures .order in
+    let d = c .before .before .before .before .before .divided in
+    let bound = d .ensures .bound in
+    let parts = d .ensures .parts (let g = c .before .before .before .if5 .left in omega arith) refl in
+    let long = parts .long in
+    let few = parts .few in
+    let room = parts .room in
     omega arith
 
 node-stage-requires : (t : ℕ) → node-lts.Need-stage-requires (node-claims t) (node-at t) node.Post node-Inv-loop node-μ-loop
 node-stage-requires t c κs =
-    let s = c .before .before .before .before .split in
-    let list = s .last .1 .1 .1 .1 .0 in
-    let n = c .before .before .before .before .before .before .before .before .before .before .before .fitted .result in
-    let fit = c .before .before .before .before .before .before .before .before .before .before .before .fitted .ensures in
-    let room = fit .room in
-    let fewer = fit .few in
-    let long = s .ensures .long in
-    let order = s .ensures .order in
-    let st = c .before .before .before .before .before .before .before .before .before .before .before .before .before .before .before .before .before .before .before in
+    let d = c .before .before .before .before .before .before .divided in
+    let list = d .last .1 .1 .1 .0 in
+    let n = d .result .count in
+    let bound = d .ensures .bound in
+    let parts = d .ensures .parts (let g = c .before .before .before .before .if5 .left in omega arith) refl in
+    let long = parts .long in
+    let few = parts .few in
+    let room = parts .room in
+    let high = c .before .before .before .before .before .before .before .before in
+    let st = high .before .before .before .before .before in
     let need = st .args .here .need in
     let k = st .args .k in
-    let some : 0 < k = some-left (getD need 16 0) (getD need 17 0) k (λ e f. ⊎-elim (λ w. w .1 .left f) (λ w. w .left e) (c .before .before .before .before .before .before .before .before .before .before .before .before .before .before .before .if1 .came)) (c .before .before .before .before .before .before .before .before .before .before .before .before .before .before .if3 .left) (c .before .before .before .before .before .before .before .before .before .before .before .before .before .if4 .left) in
+    let some : 0 < k = some-left (getD need 16 0) (getD need 17 0) k (λ e f. ⊎-elim (λ w. w .1 .left f) (λ w. w .left e) (high .before .before .if1 .came)) (high .before .if3 .left) (high .if4 .left) in
     let r = c .before .before .before .loop .r in
     let part : length (take (n - 0) list) ≡ n = omega (arith, length-take (n - 0) list) in
-    (omega arith, (some, (st .pre .1 .0, (st .pre .1 .1 .0, (omega arith, (omega (arith, part), omega (arith, part)))))))
+    (omega arith, (some, (st .pre .1 .0, (omega arith, (omega (arith, part), omega (arith, part))))))
 
 node-returns-5 : (t : ℕ) → node-lts.Need-returns-5 (node-claims t) (node-at t) node.Post node-Inv-loop node-μ-loop
 node-returns-5 t c = λ e. absurd (true≢false e)
@@ -166,15 +146,15 @@ node-loop-less t c = search needs
 
 node-loop-again : (t : ℕ) → node-lts.Need-loop-again (node-claims t) (node-at t) node.Post node-Inv-loop node-μ-loop
 node-loop-again t c =
-    let s = c .before .before .before .before .before .before .split in
-    let list = s .last .1 .1 .1 .1 .0 in
-    let n = c .before .before .before .before .before .before .before .before .before .before .before .before .before .fitted .result in
-    let fit = c .before .before .before .before .before .before .before .before .before .before .before .before .before .fitted .ensures in
-    let room = fit .room in
-    let fewer = fit .few in
-    let long = s .ensures .long in
-    let order = s .ensures .order in
-    let st = c .before .before .before .before .before .before .before .before .before .before .before .before .before .before .before .before .before .before .before .before .before in
+    let d = c .before .before .before .before .before .before .before .before .divided in
+    let list = d .last .1 .1 .1 .0 in
+    let n = d .result .count in
+    let bound = d .ensures .bound in
+    let parts = d .ensures .parts (let g = c .before .before .before .before .before .before .if5 .left in omega arith) refl in
+    let long = parts .long in
+    let few = parts .few in
+    let room = parts .room in
+    let st = c .before .before .before .before .before .before .before .before .before .before .before .before .before .before .before in
     let h = st .args .here in
     let r = c .before .before .before .before .before .loop .r in
     let inv = c .before .before .before .before .before .loop .inv in
@@ -189,11 +169,10 @@ node-loop-again t c =
 
 node-returns-6 : (t : ℕ) → node-lts.Need-returns-6 (node-claims t) (node-at t) node.Post node-Inv-loop node-μ-loop
 node-returns-6 t c = λ e.
-    let s = c .before .before .split in
-    let i = c .before .before .before .before .before .before .scarce in
-    let f = c .before .before .before .before .before .before .before .before .before .fitted in
-    node-none _ _ _ _ (f .last .1 .1 .1 .0) (f .result) (f .ensures) _ (s .last .1 .1 .1 .1 .0) (s .result) (s .ensures) (c .before .loop .r) (omega arith) (i .ensures .1 (omega arith)) (omega arith)
-    (c .before .loop .inv .1 .1)
+    let d = c .before .before .before .before .divided in
+    let bound = d .ensures .bound in
+    let l : d .result .number < 18 = (let g = c .before .before .if5 .left in omega arith) in
+    node-none _ _ _ _ (d .last .1 .1 .1 .0) (d .result) (d .ensures .parts l refl) (c .before .loop .r) l (omega arith) (c .before .loop .inv .1 .1)
 
 stage-sub-m : (t : ℕ) → stage-lts.Need-sub-m (stage-claims t) (stage-at t) stage.Post
 stage-sub-m t c = search needs
@@ -209,18 +188,18 @@ stage-replaced-requires t c κs = search needs
 
 stage-returns : (t : ℕ) → stage-lts.Need-returns (stage-claims t) (stage-at t) stage.Post
 stage-returns t c = λ e.
-    let st = c .before .before .before .before .before .before in
+    let st = c .before .before .before .before .before in
     let q = c .before .replaced in
-    let found = q .ensures (c .if1 .taken) in
-    stage-replaced _ _ _ _ _ (st .pre .1 .1 .1 .1 .0) (st .pre .1 .1 .1 .1 .1 .0) (q .result) (c .if1 .taken) (found .0) (found .1)
+    let found = q .ensures .1 (c .if1 .taken) in
+    stage-replaced _ _ _ _ _ (st .pre .1 .1 .1 .0) (st .pre .1 .1 .1 .1 .0) (q .result) (c .if1 .taken) (found .0) (found .1)
 
 stage-step-requires : (t : ℕ) → stage-lts.Need-step-requires (stage-claims t) (stage-at t) stage.Post
 stage-step-requires t c κs = search needs
 
 stage-returns-2 : (t : ℕ) → stage-lts.Need-returns-2 (stage-claims t) (stage-at t) stage.Post
 stage-returns-2 t c = λ e.
-    let st = c .before .before .before .before .before .before .before .before .before in
-    stage-passed _ _ _ _ _ (st .pre .1 .1 .1 .1 .0) (st .pre .1 .1 .1 .1 .1 .0) _ (c .before .before .step .ensures) (not-true _ (c .if2 .taken))
+    let st = c .before .before .before .before .before .before .before .before in
+    stage-passed _ _ _ _ _ (st .pre .1 .1 .1 .0) (st .pre .1 .1 .1 .1 .0) _ (c .before .before .step .ensures) (not-true _ (c .if2 .taken)) (omega (arith, st .pre))
 
 stage-sub-node : (t : ℕ) → stage-lts.Need-sub-node (stage-claims t) (stage-at t) stage.Post
 stage-sub-node t c = search needs
@@ -236,21 +215,21 @@ stage-sub-node-2 t c = search needs
 
 stage-node-requires : (t : ℕ) → stage-lts.Need-node-requires (stage-claims t) (stage-at t) stage.Post
 stage-node-requires t c κs =
-    let st = c .before .before .before .before .before .before .before .before .before .before .before in
+    let st = c .before .before .before .before .before .before .before .before .before .before in
     let ok = not-false _ (c .before .before .if2 .left) in
     let n = c .before .before .before .before .step .ensures .below .longer ok .1 in
     let falls = c .before .before .before .before .step .ensures .below .falls ok in
     let list = now (st .args .list) in
     let part = length-take (st .args .r - 0) list in
-    (omega (arith, part), (omega (arith, n), (st .pre .1 .1 .1 .0, omega (arith, part))))
+    (omega (arith, part), (omega (arith, n), omega (arith, part)))
 
 stage-returns-3 : (t : ℕ) → stage-lts.Need-returns-3 (stage-claims t) (stage-at t) stage.Post
 stage-returns-3 t c = λ e.
-    let st = c .before .before .before .before .before .before .before .before .before .before .before .before in
+    let st = c .before .before .before .before .before .before .before .before .before .before .before in
     let list = now (st .args .list) in
     let whole : st .args .r - 0 ≡ st .args .r = omega arith in
     let h = c .before .before .before .before .before .step .result .here in
-    stage-none _ _ list (st .args .r) _ (st .pre .1 .1 .1 .1 .0) (st .pre .1 .1 .1 .1 .1 .0) _ (c .before .before .before .before .before .step .ensures) (not-false _ (c .before .before .before .if2 .left)) (st .pre .1 .0)
+    stage-none _ _ list (st .args .r) _ (st .pre .1 .1 .1 .0) (st .pre .1 .1 .1 .1 .0) _ (c .before .before .before .before .before .step .ensures) (not-false _ (c .before .before .before .if2 .left)) (st .pre .1 .0)
     (subst (λ (n : ℕ). NoneHere (now (st .args .nums)) h (take n list) (st .args .k - 1)) whole (c .node .ensures e))
 
 pub +node+stage-spec : {M : Type 1} → statement M
@@ -268,11 +247,8 @@ pub +node+stage-spec : {M : Type 1} → statement M
     (node-returns-2 t)
     (node-mul-if4 t)
     (node-returns-3 t)
-    (node-fitted-requires t)
-    (node-tally-requires t)
-    (node-scarce-requires t)
+    (node-divided-requires t)
     (node-returns-4 t)
-    (node-split-requires t)
     (node-loop-holds t)
     (node-sub-stage t)
     (node-part-stage-start t)

@@ -11,14 +11,11 @@ returns c = λ e. absurd (true≢false e)
 returns-2 : tie.Need-returns-2
 returns-2 c = λ e. absurd (true≢false e)
 
-returns-3 : tie.Need-returns-3
-returns-3 c = λ e. absurd (true≢false e)
-
 node-requires : tie.Need-node-requires
 node-requires c κs = search needs
 
-returns-4 : tie.Need-returns-4
-returns-4 c = λ e. no-sum _ _ _ _ _ _ (c .node .ensures e)
+returns-3 : tie.Need-returns-3
+returns-3 c = λ e. no-sum _ _ _ _ _ _ (c .node .ensures e)
 
 pub may-sum-spec : {M : Type 1} → statement M
-may-sum-spec = tie.close (tie.spec returns returns-2 returns-3 node-requires returns-4)
+may-sum-spec = tie.close (tie.spec returns returns-2 node-requires returns-3)

@@ -65,7 +65,7 @@ node-finished-requires t c κs = search needs
 
 node-returns : (t : ℕ) → node-lts.Need-returns (node-claims t) (node-at t) node.Post node-Inv-loop node-μ-loop
 node-returns t c =
-    let st = c .before .before .before .before .before in
+    let st = c .before .before .before in
     let h = st .args .here in
     let kept = st .pre .1 .1 in
     let room = kept .room in
@@ -75,28 +75,25 @@ node-returns t c =
 
 node-loop-holds : (t : ℕ) → node-lts.Need-loop-holds (node-claims t) (node-at t) node.Post node-Inv-loop node-μ-loop
 node-loop-holds t c =
-    let st = c .before .before .before .before in
+    let st = c .before .before in
     (st .pre .1 .0, passed-none _ _ _ (st .args .k) (st .args .m) (omega arith))
 
 node-cast-if2 : (t : ℕ) → node-lts.Need-cast-if2 (node-claims t) (node-at t) node.Post node-Inv-loop node-μ-loop
 node-cast-if2 t c = search needs
 
-node-shared-slice-read-if2 : (t : ℕ) → node-lts.Need-shared-slice-read-if2 (node-claims t) (node-at t) node.Post node-Inv-loop node-μ-loop
-node-shared-slice-read-if2 t c =
-    let st = c .before .before .before .before .before .before .before in
-    let l = st .pre .1 .1 .pool .marked .room in
-    omega arith
+node-element-copy-out-if2 : (t : ℕ) → node-lts.Need-element-copy-out-if2 (node-claims t) (node-at t) node.Post node-Inv-loop node-μ-loop
+node-element-copy-out-if2 t c = search needs
 
 node-stage-requires : (t : ℕ) → node-lts.Need-stage-requires (node-claims t) (node-at t) node.Post node-Inv-loop node-μ-loop
 node-stage-requires t c κs =
-    let st = c .before .before .before .before .before .before .before .before in
+    let st = c .before .before .before .before .before .before in
     let l = c .before .before .before .loop in
     let f = l .inv .1 .from in
     (omega arith, (omega arith, (eq-eqb (c .if2 .taken), st .pre .1 .1)))
 
 node-returns-2 : (t : ℕ) → node-lts.Need-returns-2 (node-claims t) (node-at t) node.Post node-Inv-loop node-μ-loop
 node-returns-2 t c =
-    let st = c .before .before .before .before .before .before .before .before .before .before in
+    let st = c .before .before .before .before .before .before .before .before in
     let h = st .args .here in
     let l = c .before .before .before .before .before .loop in
     let p = c .before .stage in
@@ -111,7 +108,7 @@ node-loop-less t c = search needs
 
 node-loop-again : (t : ℕ) → node-lts.Need-loop-again (node-claims t) (node-at t) node.Post node-Inv-loop node-μ-loop
 node-loop-again t c =
-    let st = c .before .before .before .before .before .before .before .before in
+    let st = c .before .before .before .before .before .before in
     let h = st .args .here in
     let l = c .before .before .before .loop in (
       omega arith,
@@ -121,7 +118,7 @@ node-loop-again t c =
 
 node-returns-3 : (t : ℕ) → node-lts.Need-returns-3 (node-claims t) (node-at t) node.Post node-Inv-loop node-μ-loop
 node-returns-3 t c =
-    let st = c .before .before .before .before .before .before in
+    let st = c .before .before .before .before in
     let h = st .args .here in
     let l = c .before .loop in
     passed-all (tries (now (st .args .marks))) _ _ (st .args .k) (st .args .m) (omega arith) (l .i) _ (st .pre .1 .1 .pool .marked .stages) (l .inv .1) (c .loop-test .left) (zero-at 32)
@@ -134,13 +131,13 @@ stage-tried-requires t c κs = search needs
 
 stage-returns : (t : ℕ) → stage-lts.Need-returns (stage-claims t) (stage-at t) stage.Post
 stage-returns t c =
-    let st = c .before .before .before .before .before .before in
+    let st = c .before .before .before .before in
     let h = st .args .here in
     let kept = st .pre .1 .1 .1 in
     let room = kept .room in (
       λ e. absurd (false≢true e),
       λ e. below-none (tries (now (st .args .marks))) (now (st .args .nums)) (now (st .args .cand)) h (st .args .k) (st .args .m) _ (c .before .before .tried .ensures) (not-true _ (c .if1 .taken))
-          (record { table = kept .pool .table; list = kept .pool .few; path = omega arith }) (kept .state) (kept .pool .allowed) (kept .pool .all) (st .pre .1 .1 .0),
+          (record { list = kept .pool .few; path = omega arith }) (kept .state) (kept .pool .allowed) (kept .pool .all) (st .pre .1 .1 .0),
     )
 
 stage-sub-node : (t : ℕ) → stage-lts.Need-sub-node (stage-claims t) (stage-at t) stage.Post
@@ -148,7 +145,7 @@ stage-sub-node t c = search needs
 
 stage-node-requires : (t : ℕ) → stage-lts.Need-node-requires (stage-claims t) (stage-at t) stage.Post
 stage-node-requires t c κs =
-    let st = c .before .before .before .before .before .before .before in
+    let st = c .before .before .before .before .before in
     let h = st .args .here in
     let kept = st .pre .1 .1 .1 in
     let room = kept .room in
@@ -161,7 +158,7 @@ stage-node-requires t c κs =
 
 stage-returns-2 : (t : ℕ) → stage-lts.Need-returns-2 (stage-claims t) (stage-at t) stage.Post
 stage-returns-2 t c =
-    let st = c .before .before .before .before .before .before .before .before .before .before in
+    let st = c .before .before .before .before .before .before .before .before in
     let h = st .args .here in
     let n = c .before .before .node in (
       λ e. absurd (false≢true e),
@@ -180,7 +177,7 @@ stage-element-write-p t c = search needs
 
 stage-returns-3 : (t : ℕ) → stage-lts.Need-returns-3 (stage-claims t) (stage-at t) stage.Post
 stage-returns-3 t c =
-    let st = c .before .before .before .before .before .before .before .before .before .before in
+    let st = c .before .before .before .before .before .before .before .before in
     let h = st .args .here in
     let room = st .pre .1 .1 .1 .room in
     let n = c .before .before .node in
@@ -201,7 +198,7 @@ pub +node+stage-spec : {M : Type 1} → statement M
     (node-returns t)
     (node-loop-holds t)
     (node-cast-if2 t)
-    (node-shared-slice-read-if2 t)
+    (node-element-copy-out-if2 t)
     (node-stage-requires t)
     (node-returns-2 t)
     (node-add-i t)

@@ -20,7 +20,7 @@ least-count-requires c κs = search needs
 
 loop-holds : tie.Need-loop-holds Inv-loop μ-loop
 loop-holds c =
-    let st = c .before .before .before .before in
+    let st = c .before .before in
     let a = st .args in
     let A = At (a .cells) in
     let g = st .pre .1 .1 .0 in
@@ -33,12 +33,12 @@ add-loop c = search needs
 
 of-length-requires : tie.Need-of-length-requires Inv-loop μ-loop
 of-length-requires c κs =
-    let st = c .before .before .before .before .before .before in
+    let st = c .before .before .before .before in
     (omega arith, st .pre .1 .1 .1 .1)
 
 returns : tie.Need-returns Inv-loop μ-loop
 returns c =
-    let st = c .before .before .before .before .before .before .before .before .before in
+    let st = c .before .before .before .before .before .before .before in
     let a = st .args in
     let A = At (a .cells) in
     let g = st .pre .1 .1 .0 in
@@ -55,7 +55,7 @@ loop-less c = search needs
 
 loop-again : tie.Need-loop-again Inv-loop μ-loop
 loop-again c =
-    let st = c .before .before .before .before .before .before .before .before in
+    let st = c .before .before .before .before .before .before in
     let a = st .args in
     let A = At (a .cells) in
     let g = st .pre .1 .1 .0 in
@@ -66,7 +66,7 @@ loop-again c =
 
 returns-2 : tie.Need-returns-2 Inv-loop μ-loop
 returns-2 c =
-    let st = c .before .before .before .before .before .before in
+    let st = c .before .before .before .before in
     let a = st .args in
     let A = At (a .cells) in
     let g = st .pre .1 .1 .0 in

@@ -12,7 +12,7 @@ opened-requires c κs = search needs
 
 returns : tie.Need-returns
 returns c =
-    let st = c .before .before .before .before .before in
+    let st = c .before .before .before .before in
     let h = st .args .here in
     led (now (st .args .nums)) (now (st .args .cand)) h (st .args .m) (st .args .j) _ (c .before .before .opened .ensures)
 
@@ -21,13 +21,13 @@ too-many-requires c κs = search needs
 
 returns-2 : tie.Need-returns-2
 returns-2 c =
-    let st = c .before .before .before .before .before .before .before .before .before in
+    let st = c .before .before .before .before .before .before .before .before in
     let h = st .args .here in
     led-few (now (st .args .nums)) (now (st .args .cand)) h (st .args .m) (st .args .j) _ (c .before .before .before .before .before .before .opened .ensures) (not-false _ (c .before .before .before .before .if1 .left)) (ltb-true _ _ (sym (c .before .too-many .ensures) ∙ c .if2 .taken))
 
 returns-3 : tie.Need-returns-3
 returns-3 c =
-    let st = c .before .before .before .before .before .before .before .before .before in
+    let st = c .before .before .before .before .before .before .before .before in
     let h = st .args .here in
     led (now (st .args .nums)) (now (st .args .cand)) h (st .args .m) (st .args .j) _ (c .before .before .before .before .before .before .opened .ensures)
 

@@ -1,5 +1,6 @@
 -- The invariant: the greatest excess so far is 0 exactly where the numbers before i are at most what is needed. The measure: the numbers left.
 use mathlib.Core.Path.{_≡_, refl}
+use mathlib.Core.Bool.{false≢true}
 use Prim.Native.Nat.{ℕ, _≤_, _<_, _-_}
 use lib.ListN.{getD}
 use borrow.Author.Tests.{eqb-true, eqb-false}
@@ -17,6 +18,9 @@ Inv-loop nums m need at over₀ i₀ over i = (i ≤ 18) × ((over ≡ 0 → (k 
 abbrev μ-loop : tie.MeasureT-loop
 μ-loop nums m need at over₀ i₀ over i = 18 - i
 
+returns : tie.Need-returns Inv-loop μ-loop
+returns c = (λ e. absurd (false≢true e), λ e l f. omega arith)
+
 mul-at : tie.Need-mul-at Inv-loop μ-loop
 mul-at c = search needs
 
@@ -26,8 +30,8 @@ loop-holds c = (omega arith, (λ e k l. absurd (omega arith), λ f. refl))
 add-lower : tie.Need-add-lower Inv-loop μ-loop
 add-lower c = search needs
 
-shared-slice-read-lower : tie.Need-shared-slice-read-lower Inv-loop μ-loop
-shared-slice-read-lower c = search needs
+element-copy-out-lower : tie.Need-element-copy-out-lower Inv-loop μ-loop
+element-copy-out-lower c = search needs
 
 array-read-lower : tie.Need-array-read-lower Inv-loop μ-loop
 array-read-lower c = search needs
@@ -58,10 +62,10 @@ loop-again c =
       ),
     )
 
-returns : tie.Need-returns Inv-loop μ-loop
-returns c =
+returns-2 : tie.Need-returns-2 Inv-loop μ-loop
+returns-2 c =
     let st = c .before .loop in
-    (λ e. record { below = λ k l. st .inv .1 .0 (eqb-true _ 0 e) k (omega arith) }, λ e f. eqb-false _ 0 e (st .inv .1 .1 f))
+    (λ e. (omega arith, record { below = λ k l. st .inv .1 .0 (eqb-true _ 0 e) k (omega arith) }), λ e l f. eqb-false _ 0 e (st .inv .1 .1 f))
 
 pub fits-spec : {M : Type 1} → statement M
 fits-spec =
@@ -69,14 +73,15 @@ fits-spec =
     (tie.spec
     Inv-loop
     μ-loop
+    returns
     mul-at
     loop-holds
     add-lower
-    shared-slice-read-lower
+    element-copy-out-lower
     array-read-lower
     lower-requires
     greater-requires
     add-i
     loop-less
     loop-again
-    returns)
+    returns-2)

@@ -17,6 +17,9 @@ Inv-loop nums m need at r₀ i₀ r i = (i ≤ 18) × ((length r ≡ 18) × (((k
 abbrev μ-loop : tie.MeasureT-loop
 μ-loop nums m need at r₀ i₀ r i = 18 - i
 
+returns : tie.Need-returns Inv-loop μ-loop
+returns c = (λ l. absurd (omega arith), λ l. refl)
+
 mul-at : tie.Need-mul-at Inv-loop μ-loop
 mul-at c = search needs
 
@@ -29,8 +32,8 @@ array-read-lower c = search needs
 add-lower : tie.Need-add-lower Inv-loop μ-loop
 add-lower c = search needs
 
-shared-slice-read-lower : tie.Need-shared-slice-read-lower Inv-loop μ-loop
-shared-slice-read-lower c = search needs
+element-copy-out-lower : tie.Need-element-copy-out-lower Inv-loop μ-loop
+element-copy-out-lower c = search needs
 
 lower-requires : tie.Need-lower-requires Inv-loop μ-loop
 lower-requires c κs = search needs
@@ -63,8 +66,8 @@ loop-again c =
       ),
     )
 
-returns : tie.Need-returns Inv-loop μ-loop
-returns c = λ k l. c .before .loop .inv .1 .1 .0 k (omega arith)
+returns-2 : tie.Need-returns-2 Inv-loop μ-loop
+returns-2 c = (λ b k l. c .before .loop .inv .1 .1 .0 k (omega arith), λ b. absurd (omega arith))
 
 pub less-spec : {M : Type 1} → statement M
 less-spec =
@@ -72,14 +75,15 @@ less-spec =
     (tie.spec
     Inv-loop
     μ-loop
+    returns
     mul-at
     loop-holds
     array-read-lower
     add-lower
-    shared-slice-read-lower
+    element-copy-out-lower
     lower-requires
     array-write-r
     add-i
     loop-less
     loop-again
-    returns)
+    returns-2)

@@ -1,6 +1,8 @@
 -- The invariant: the first t of the other list stand behind the first p. The measure: those left.
 use mathlib.Core.Logic.{inl, inr, ⊎-elim}
+use mathlib.Core.Path.{_≡_}
 use Prim.Native.Nat.{_≤_, _-_}
+use lib.ListN.{length}
 use Rattle.completions.proofs.Loops.{among-more}
 use Rattle.completions.proofs.Drawing.{AppendedTo, appended-none, appended-more}
 use borrow.Author.Needs.{needs}
@@ -9,13 +11,13 @@ use Rattle.completions.proofs.pools.appended.Statement.{statement}
 use Rattle.completions.proofs.pools.appended.Tie as tie
 
 abbrev Inv-loop : tie.InvT-loop
-Inv-loop list₀ p other q t₀ list t = (t ≤ q) × AppendedTo list₀ list other p t
+Inv-loop list₀ p other q t₀ list t = (t ≤ q) × (length list₀ ≡ 512 → AppendedTo list₀ list other p t)
 
 abbrev μ-loop : tie.MeasureT-loop
 μ-loop list₀ p other q t₀ list t = q - t
 
 loop-holds : tie.Need-loop-holds Inv-loop μ-loop
-loop-holds c = (omega arith, appended-none _ _ _ (c .pre .1))
+loop-holds c = (omega arith, appended-none _ _ _)
 
 mul-list : tie.Need-mul-list Inv-loop μ-loop
 mul-list c = search needs
@@ -39,14 +41,15 @@ loop-less : tie.Need-loop-less Inv-loop μ-loop
 loop-less c = search needs
 
 loop-again : tie.Need-loop-again Inv-loop μ-loop
-loop-again c = (omega arith, appended-more _ _ _ _ _ (omega arith) (c .before .before .loop .inv .1))
+loop-again c = (omega arith, λ w. appended-more _ _ _ _ _ (omega arith) (c .before .before .loop .inv .1 w))
 
 returns : tie.Need-returns Inv-loop μ-loop
-returns c =
-    let h = c .before .loop .inv .1 in record {
+returns c = λ w.
+    let h = c .before .loop .inv .1 w in record {
       first = λ m a. among-more _ _ _ m (omega arith) (h .first m a);
       behind = λ m a. among-more _ _ _ m (omega arith) (h .behind m (among-more _ _ _ m (omega arith) a));
       back = h .back;
+      after = λ u l. h .after u (omega arith);
       only = λ m a. ⊎-elim (λ w. inl w) (λ w. inr (among-more _ _ _ m (omega arith) w)) (h .only m (among-more _ _ _ m (omega arith) a));
       long = h .long;
     }

@@ -17,7 +17,7 @@ abbrev μ-loop : tie.MeasureT-loop
 μ-loop need nums cand list₀ n₀ j₀ list n j = length cand - j
 
 loop-holds : tie.Need-loop-holds Inv-loop μ-loop
-loop-holds c = (omega arith, fitted-none _ _ _ _ (c .before .before .pre .1 .1))
+loop-holds c = (omega arith, fitted-none _ _ _ _ (c .before .pre .1))
 
 mul-m : tie.Need-mul-m Inv-loop μ-loop
 mul-m c = search needs
@@ -46,14 +46,14 @@ loop-less c = search needs
 loop-again : tie.Need-loop-again Inv-loop μ-loop
 loop-again c =
     let st = c .before .before .before in
-    let args = st .before .before .before .args in
-    (omega arith, fitted-more (now (args .nums)) (args .need) (now (args .cand)) (st .loop .list) (st .loop .n) (st .loop .j) _ _ (omega arith) refl (c .fitting .ensures .0) (c .fitting .ensures .1) (st .loop .inv .1))
+    let args = st .before .before .args in
+    (omega arith, fitted-more (now (args .nums)) (args .need) (now (args .cand)) (st .loop .list) (st .loop .n) (st .loop .j) _ _ (omega arith) refl (c .fitting .ensures .0) (c .fitting .ensures .1 .0) (c .fitting .ensures .1 .1) (st .loop .inv .1))
 
 returns : tie.Need-returns Inv-loop μ-loop
 returns c =
     let h = c .before .loop .inv .1 in
     let few = h .few in
-    record { all = λ m b a f. h .all m b (among-more _ _ _ m (omega arith) a) f; only = λ m a. among-more _ _ _ m (omega arith) (h .only m a); few = omega arith; room = omega arith }
+    record { all = λ m b a f. h .all m b (among-more _ _ _ m (omega arith) a) f; only = λ m a. among-more _ _ _ m (omega arith) (h .only m a); fit = h .fit; few = omega arith; room = omega arith }
 
 pub fitted-spec : {M : Type 1} → statement M
 fitted-spec =

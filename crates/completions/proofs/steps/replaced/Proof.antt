@@ -28,7 +28,7 @@ replaces-requires : tie.Need-replaces-requires Inv-loop μ-loop
 replaces-requires c κs = search needs
 
 returns : tie.Need-returns Inv-loop μ-loop
-returns c = λ l. (c .before .before .before .before .loop .inv, c .before .replaces .ensures (c .if1 .taken))
+returns c = (omega arith, λ l. (c .before .before .before .before .loop .inv, c .before .replaces .ensures (c .if1 .taken)))
 
 add-p : tie.Need-add-p Inv-loop μ-loop
 add-p c = search needs
@@ -40,7 +40,7 @@ loop-again : tie.Need-loop-again Inv-loop μ-loop
 loop-again c = search needs
 
 returns-2 : tie.Need-returns-2 Inv-loop μ-loop
-returns-2 c = λ l. absurd (omega arith)
+returns-2 c = (omega arith, λ l. absurd (omega arith))
 
 pub replaced-spec : {M : Type 1} → statement M
 replaced-spec =
