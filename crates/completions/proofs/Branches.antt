@@ -12,7 +12,7 @@ use lib.ListN.{length, getD}
 use Rattle.plane.specs.Lists.{In}
 use Rattle.edges.specs.Edges.{summed}
 use Rattle.rows.specs.Cells.{Cells, Sum, AtMask}
-use Rattle.completions.specs.Completing.{Fills, Among, From, None, NoneWith, Tried, Open, Fit, Replaces}
+use Rattle.completions.specs.Completing.{Fills, Among, From, None, NoneThrough, Spent, Open, Fit, Replaces}
 use Rattle.completions.proofs.Loops.{among-more}
 use Rattle.completions.proofs.Members.{Out, some-or, without-one, taken-out, replaced}
 
@@ -51,20 +51,20 @@ equal-or m s = on (ℕ-discrete s m)
 -- ---- the masks of a list, tried from the last
 
 module _ (permitted : ℕ → Bool) (A Y : Cells) (xs : List ℕ) (n k : ℕ) where
-  pub tried-none : Tried permitted A Y xs n n k
-  tried-none = record { left = λ L f a l. a; gone = λ j p q. absurd (omega arith) }
+  pub spent-none : Spent permitted A Y xs n n k
+  spent-none = record { left = λ L f a l. a; gone = λ j p q. absurd (omega arith) }
 
   -- the mask at r was tried, over the list up to it
-  module _ (r : ℕ) (l : r < n) (t : Tried permitted A Y xs n (suc r) k) (no : NoneWith permitted A Y xs (suc r) k (getD xs r 0)) where
-    here-gone : NoneWith permitted A Y xs n k (getD xs r 0)
+  module _ (r : ℕ) (l : r < n) (t : Spent permitted A Y xs n (suc r) k) (no : NoneThrough permitted A Y xs (suc r) k (getD xs r 0)) where
+    here-gone : NoneThrough permitted A Y xs n k (getD xs r 0)
     here-gone = record {
       no = λ L f a q.
           let b = t .left (getD xs r 0 ∷ L) f (λ m h. ⊎-elim (λ e. record { at = r; before = l; is = sym e }) (a m) h) (omega arith) in
           no .no L f (λ m h. b m (inr h)) q;
     }
 
-    gone-on : (j : ℕ) → r ≤ j → j < n → NoneWith permitted A Y xs n k (getD xs j 0)
-    gone-on j p q = ⊎-elim (λ e. subst (λ (i : ℕ). NoneWith permitted A Y xs n k (getD xs i 0)) e here-gone) (λ w. t .gone j w q) (eq-or-lt-of-le p)
+    gone-on : (j : ℕ) → r ≤ j → j < n → NoneThrough permitted A Y xs n k (getD xs j 0)
+    gone-on j p q = ⊎-elim (λ e. subst (λ (i : ℕ). NoneThrough permitted A Y xs n k (getD xs i 0)) e here-gone) (λ w. t .gone j w q) (eq-or-lt-of-le p)
 
     left-on : (L : List ℕ) → Fills permitted A Y L → From xs n L → length L ≤ k → From xs r L
     left-on L f a q = ⊎-elim has hasnt (some-or (λ s. s ≡ getD xs r 0) (equal-or (getD xs r 0)) L)
@@ -77,26 +77,26 @@ module _ (permitted : ℕ → Bool) (A Y : Cells) (xs : List ℕ) (n k : ℕ) wh
         hasnt : ((m : ℕ) → In L m → m ≡ getD xs r 0 → ⊥) → From xs r L
         hasnt g m h = among-less xs r m (t .left L f a q m h) (g m h)
 
-    pub tried-more : Tried permitted A Y xs n r k
-    tried-more = record { left = left-on; gone = gone-on }
+    pub spent-more : Spent permitted A Y xs n r k
+    spent-more = record { left = left-on; gone = gone-on }
 
   -- nothing below the mask completes the sum
-  pub none-below : (m : ℕ) → 0 < k → None permitted A (Sum Y (AtMask m)) xs n (k - 1) → NoneWith permitted A Y xs n k m
+  pub none-below : (m : ℕ) → 0 < k → None permitted A (Sum Y (AtMask m)) xs n (k - 1) → NoneThrough permitted A Y xs n k m
   none-below m p a = record { no = λ L f b q. a .no L (without-one permitted A Y m L f) b (omega arith) }
 
   -- the mask itself is passed over
-  pub passed-over : (m : ℕ) → (T (permitted m) → (L : List ℕ) → Fills permitted A (Sum Y (AtMask m)) L → ⊥) → NoneWith permitted A Y xs n k m
+  pub passed-over : (m : ℕ) → (T (permitted m) → (L : List ℕ) → Fills permitted A (Sum Y (AtMask m)) L → ⊥) → NoneThrough permitted A Y xs n k m
   passed-over m a = record { no = λ L f b q. a (f .masks m (inl refl)) L (without-one permitted A Y m L f) }
 
   module _ (num : ℕ → ℕ → ℕ) (T′ : Cells) (need : List ℕ) (o : Open permitted num A Y T′ need) where
     -- rule S: a mask that was tried over a longer list replaces m
-    pub replaced-gone : (r m j : ℕ) → r ≤ j → j < n → Tried permitted A Y xs n r k → T (permitted (getD xs j 0)) → Replaces T′ m (getD xs j 0) → NoneWith permitted A Y xs r k m
+    pub replaced-gone : (r m j : ℕ) → r ≤ j → j < n → Spent permitted A Y xs n r k → T (permitted (getD xs j 0)) → Replaces T′ m (getD xs j 0) → NoneThrough permitted A Y xs r k m
     replaced-gone r m j p q t b e = record {
       no = λ L f a l. t .gone j p q .no L (replaced permitted num A Y T′ need o m (getD xs j 0) b e L f) (λ s h. among-more xs r n s (omega arith) (a s h)) l;
     }
 
     -- a number is needed that none of those left has
-    pub branch-end : (i r : ℕ) → i < 18 → 0 < getD need i 0 → ((m : ℕ) → T (permitted m) → Among xs r m → num i m ≡ 0) → Tried permitted A Y xs n r k → None permitted A Y xs n k
+    pub branch-end : (i r : ℕ) → i < 18 → 0 < getD need i 0 → ((m : ℕ) → T (permitted m) → Among xs r m → num i m ≡ 0) → Spent permitted A Y xs n r k → None permitted A Y xs n k
     branch-end i r l p z t = record {
       no = λ L f a q.
           let e = none-summed (num i) L (λ m h. z m (f .masks m h) (t .left L f a q m h)) in

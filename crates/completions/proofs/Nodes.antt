@@ -7,11 +7,15 @@ use native.Mathlib.Omega.{arith}
 use lib.Dec.{T}
 use lib.ListN.{length, getD, take, length-take}
 use lib.Seq.{getD-take}
-use Rattle.rows.specs.Cells.{Cells, Sum, At, AtMask, AtSum, chosen}
-use Rattle.completions.specs.Completing.{Among, None, NoneWith, Tried, Fit, Replaces, numberIn, Ready, Stepped, Fitting, Split, Allowed, NoneHere, NoneBefore, NoSum}
+use Rattle.rows.specs.Cells.{Cells, Sum, At, AtMask, chosen}
+use Rattle.completions.specs.declared.Here.{Here}
+use Rattle.completions.specs.declared.Child.{Child}
+use Rattle.completions.specs.declared.Branch.{Branch}
+use Rattle.completions.specs.Completing.{Among, None, NoneThrough, Spent, Replaces, numberIn, aimOf, partialSum, Ready, Stepped, Allowed, NoneHere, NoneBefore, NoSum}
+use Rattle.completions.specs.Pools.{Parts}
 use Rattle.completions.proofs.Loops.{among-more}
-use Rattle.completions.proofs.Stepping.{stepped-fills}
-use Rattle.completions.proofs.Branches.{tried-none, tried-more, none-below, passed-over, replaced-gone, branch-end, drawn, too-few}
+use Rattle.completions.proofs.Stepping.{below-fills}
+use Rattle.completions.proofs.Branches.{spent-none, spent-more, none-below, passed-over, replaced-gone, branch-end, drawn, too-few}
 
 -- ---- a part of a list
 
@@ -24,57 +28,61 @@ of-part xs n r m l a = let b = a .before in record { at = a .at; before = b; is 
 
 -- ---- a node
 
-module _ (nums target rest path : List ℕ) (len : ℕ) (need cand : List ℕ) (k : ℕ) where
+module _ (nums : List ℕ) (here : Here) (cand : List ℕ) (k : ℕ) where
   abbrev Y : Cells
-  Y = AtSum (chosen path len)
+  Y = partialSum here
 
   -- k masks do not reach the width, or the height, that is needed
-  pub too-wide : 2 * k < getD need 16 0 → NoneHere nums target rest path len need cand k
-  too-wide h = record { no = λ permitted r a. too-few permitted (At target) Y cand (length cand) k (numberIn nums) (At rest) need (r .state) 16 (omega arith) (λ m t. let c = r .known .spans m t .right .1 .column in omega arith) h }
+  pub too-wide : 2 * k < getD (here .need) 16 0 → NoneHere nums here cand k
+  too-wide h = record { no = λ permitted r a. too-few permitted (aimOf here) Y cand (length cand) k (numberIn nums) (At (here .rest)) (here .need) (r .state) 16 (omega arith) (λ m t. let c = r .known .spans m t .right .1 .column in omega arith) h }
 
-  pub too-high : 2 * k < getD need 17 0 → NoneHere nums target rest path len need cand k
-  too-high h = record { no = λ permitted r a. too-few permitted (At target) Y cand (length cand) k (numberIn nums) (At rest) need (r .state) 17 (omega arith) (λ m t. let c = r .known .spans m t .high .1 .row in omega arith) h }
+  pub too-high : 2 * k < getD (here .need) 17 0 → NoneHere nums here cand k
+  too-high h = record { no = λ permitted r a. too-few permitted (aimOf here) Y cand (length cand) k (numberIn nums) (At (here .rest)) (here .need) (r .state) 17 (omega arith) (λ m t. let c = r .known .spans m t .high .1 .row in omega arith) h }
 
   -- of the masks of a list those from r on were tried, whichever masks are permitted
   pub record Turned (xs : List ℕ) (r : ℕ) : Type 0 where
-    pub tried : (permitted : ℕ → Bool) → Ready permitted nums target rest path len need → Allowed permitted xs → Tried permitted (At target) Y xs (length xs) r k
+    pub spent : (permitted : ℕ → Bool) → Ready permitted nums here → Allowed permitted xs → Spent permitted (aimOf here) Y xs (length xs) r k
 
   pub turned-none : (xs : List ℕ) (r : ℕ) → r ≡ length xs → Turned xs r
-  turned-none xs r e = record { tried = λ permitted s a. subst (λ (j : ℕ). Tried permitted (At target) Y xs (length xs) j k) (sym e) (tried-none permitted (At target) Y xs (length xs) k) }
+  turned-none xs r e = record { spent = λ permitted s a. subst (λ (j : ℕ). Spent permitted (aimOf here) Y xs (length xs) j k) (sym e) (spent-none permitted (aimOf here) Y xs (length xs) k) }
 
-  pub turned-more : (xs : List ℕ) (r : ℕ) → 0 < r → r ≤ length xs → Turned xs r → NoneBefore nums target rest path len need xs r k → Turned xs (r - 1)
+  pub turned-more : (xs : List ℕ) (r : ℕ) → 0 < r → r ≤ length xs → Turned xs r → NoneBefore nums here xs r k → Turned xs (r - 1)
   turned-more xs r p l t h = record {
-    tried = λ permitted s a.
+    spent = λ permitted s a.
         let e : suc (r - 1) ≡ r = omega arith in
-        let was = t .tried permitted s a in
-        tried-more permitted (At target) Y xs (length xs) k (r - 1) (omega arith)
-        (subst (λ (j : ℕ). Tried permitted (At target) Y xs (length xs) j k) (sym e) was)
-        (subst (λ (j : ℕ). NoneWith permitted (At target) Y xs j k (getD xs (r - 1) 0)) (sym e) (h .no permitted s a was (r - 1) e));
+        let was = t .spent permitted s a in
+        spent-more permitted (aimOf here) Y xs (length xs) k (r - 1) (omega arith)
+        (subst (λ (j : ℕ). Spent permitted (aimOf here) Y xs (length xs) j k) (sym e) was)
+        (subst (λ (j : ℕ). NoneThrough permitted (aimOf here) Y xs j k (getD xs (r - 1) 0)) (sym e) (h .no permitted s a was (r - 1) e));
   }
 
   -- the loop's end: a number is needed that none of those left has
-  module _ (some : List ℕ) (n : ℕ) (fit : Fitting nums need cand (length cand) some n) (i : ℕ) (list : List ℕ) (p : ℕ) (cut : Split nums some n i list p) where
-    allowed : (permitted : ℕ → Bool) → Allowed permitted cand → Allowed permitted (take n list)
-    allowed permitted a m h = a m (fit .only m (cut .only m (among-more list _ n m (omega (arith, length-take n list, cut .long, fit .room)) (of-part list n (length (take n list)) m (omega (arith, length-take n list)) h))))
+  module _ (list : List ℕ) (b : Branch) (d : Parts nums (here .need) cand list b) where
+    abbrev n : ℕ
+    n = b .count
 
-    pub node-none : (r : ℕ) → i < 18 → 0 < getD need i 0 → r ≤ p → Turned (take n list) r → NoneHere nums target rest path len need cand k
-    node-none r l z q t = record {
+    allowed : (permitted : ℕ → Bool) → Allowed permitted cand → Allowed permitted (take n list)
+    allowed permitted a m h = a m (d .only m (among-more list _ n m (omega (arith, length-take n list)) (of-part list n (length (take n list)) m (omega (arith, length-take n list)) h)))
+
+    pub node-none : (r : ℕ) → b .number < 18 → r ≤ b .without → Turned (take n list) r → NoneHere nums here cand k
+    node-none r l q t = record {
       no = λ permitted s a.
-          let order = cut .order in
-          let long = cut .long in
-          let room = fit .room in
-          drawn permitted (At target) Y (take n list) (length (take n list)) k (numberIn nums) (At rest) need (s .state) cand (length cand)
-          (λ m g b f. let d = s .known .below m g in to-part list n m (omega arith) (cut .all m d (fit .all m d b f)))
-          (branch-end permitted (At target) Y (take n list) (length (take n list)) k (numberIn nums) (At rest) need (s .state) i r l z
-          (λ m g b. cut .without m (s .known .below m g) (among-more list r p m q (of-part list n r m (omega arith) b)))
-          (t .tried permitted s (allowed permitted a)));
+          let order = d .order in
+          let long = d .long in
+          let few = d .few in
+          let room = d .room in
+          drawn permitted (aimOf here) Y (take n list) (length (take n list)) k (numberIn nums) (At (here .rest)) (here .need) (s .state) cand (length cand)
+          (λ m g c f. to-part list n m (omega arith) (d .all m (s .known .below m g) c f))
+          (branch-end permitted (aimOf here) Y (take n list) (length (take n list)) k (numberIn nums) (At (here .rest)) (here .need) (s .state) (b .number) r l (d .needed)
+          (λ m g c. d .without m (s .known .below m g) (among-more list r (b .without) m q (of-part list n r m (omega arith) c)))
+          (t .spent permitted s (allowed permitted a)));
     }
 
 -- ---- a stage
 
-module _ (nums target rest path : List ℕ) (len : ℕ) (need list : List ℕ) (r k : ℕ) (r-in : 0 < r) (r-to : r ≤ length list) where
+module _ (nums : List ℕ) (here : Here) (list : List ℕ) (r k : ℕ) (r-in : 0 < r) (r-to : r ≤ length list) where
   abbrev Z : Cells
-  Z = AtSum (chosen path len)
+  Z = partialSum here
 
   abbrev m : ℕ
   m = getD list (r - 1) 0
@@ -86,39 +94,39 @@ module _ (nums target rest path : List ℕ) (len : ℕ) (need list : List ℕ) (
   permitted-m permitted a = a m (record { at = r - 1; before = omega arith; is = refl })
 
   -- what is shown of the mask before r
-  none-of : ((permitted : ℕ → Bool) → Ready permitted nums target rest path len need → Allowed permitted list → Tried permitted (At target) Z list (length list) r k
-      → NoneWith permitted (At target) Z list r k m) → NoneBefore nums target rest path len need list r k
-  none-of f = record { no = λ permitted s a t j e. subst (λ (i : ℕ). NoneWith permitted (At target) Z list r k (getD list i 0)) (sym (before-is j e)) (f permitted s a t) }
+  none-of : ((permitted : ℕ → Bool) → Ready permitted nums here → Allowed permitted list → Spent permitted (aimOf here) Z list (length list) r k
+      → NoneThrough permitted (aimOf here) Z list r k m) → NoneBefore nums here list r k
+  none-of f = record { no = λ permitted s a t j e. subst (λ (i : ℕ). NoneThrough permitted (aimOf here) Z list r k (getD list i 0)) (sym (before-is j e)) (f permitted s a t) }
 
   -- rule S: a mask that was tried replaces it
-  pub stage-replaced : (p : ℕ) → p < length list → r ≤ p → ((i j : ℕ) → AtMask m i j → Replaces (At rest) m (getD list p 0)) → NoneBefore nums target rest path len need list r k
+  pub stage-replaced : (p : ℕ) → p < length list → r ≤ p → ((i j : ℕ) → AtMask m i j → Replaces (At (here .rest)) m (getD list p 0)) → NoneBefore nums here list r k
   stage-replaced p l q f = none-of (λ permitted s a t.
       let c = s .known .spans m (permitted-m permitted a) .left in
-      replaced-gone permitted (At target) Z list (length list) k (numberIn nums) (At rest) need (s .state) r m p q l t
+      replaced-gone permitted (aimOf here) Z list (length list) k (numberIn nums) (At (here .rest)) (here .need) (s .state) r m p q l t
       (a (getD list p 0) (record { at = p; before = l; is = refl })) (f 0 (c .0) (c .1)))
 
-  module _ (ok : Bool) (target′ rest′ path′ : List ℕ) (len′ : ℕ) (need′ : List ℕ) (st : Stepped nums target rest path len need m ok target′ rest′ path′ len′ need′) where
+  module _ (c : Child) (st : Stepped nums here m c) where
     -- it is passed over
-    pub stage-passed : ok ≡ false → NoneBefore nums target rest path len need list r k
-    stage-passed e = none-of (λ permitted s a t. passed-over permitted (At target) Z list r k m (st .no e permitted s))
+    pub stage-passed : c .ok ≡ false → here .len < 32 → NoneBefore nums here list r k
+    stage-passed e l = none-of (λ permitted s a t. passed-over permitted (aimOf here) Z list r k m (st .no e l permitted s))
 
     -- nothing completes the sum below it
-    pub stage-none : ok ≡ true → 0 < k → NoneHere nums target′ rest′ path′ len′ need′ (take r list) (k - 1) → NoneBefore nums target rest path len need list r k
-    stage-none e p h = none-of (λ permitted s a t. none-below permitted (At target) Z list r k m p (below permitted s a))
+    pub stage-none : c .ok ≡ true → 0 < k → NoneHere nums (c .here) (take r list) (k - 1) → NoneBefore nums here list r k
+    stage-none e p h = none-of (λ permitted s a t. none-below permitted (aimOf here) Z list r k m p (below permitted s a))
       where
         part : (permitted : ℕ → Bool) → Allowed permitted list → Allowed permitted (take r list)
         part permitted a q b = a q (among-more list r (length list) q r-to (among-more list _ r q (omega (arith, length-take r list)) (of-part list r (length (take r list)) q (omega (arith, length-take r list)) b)))
 
-        below : (permitted : ℕ → Bool) → Ready permitted nums target rest path len need → Allowed permitted list → None permitted (At target) (Sum Z (AtMask m)) list r (k - 1)
+        below : (permitted : ℕ → Bool) → Ready permitted nums here → Allowed permitted list → None permitted (aimOf here) (Sum Z (AtMask m)) list r (k - 1)
         below permitted s a = record {
-          no = λ L f b q. h .no permitted (st .ready e permitted s (permitted-m permitted a)) (part permitted a) .no L (stepped-fills _ _ _ _ _ _ _ _ _ _ _ _ _ st e permitted L f) (λ v g. to-part list r v r-to (b v g)) q;
+          no = λ L f b q. h .no permitted (st .below .ready e permitted s (permitted-m permitted a)) (part permitted a) .no L (below-fills nums here m c (st .below) e permitted L f) (λ v g. to-part list r v r-to (b v g)) q;
         }
 
 -- ---- from the start
 
-pub no-sum : (cells need nums cand path : List ℕ) (k : ℕ) → NoneHere nums cells cells path 0 need cand k → NoSum cells need nums cand k
+pub no-sum : (cells need nums cand path : List ℕ) (k : ℕ) → NoneHere nums (record { target = cells; rest = cells; path = path; len = 0; need = need }) cand k → NoSum cells need nums cand k
 unfolding chosen
-no-sum cells need nums cand path k h = record { no = λ permitted m o. h .no permitted (record { known = m; way = λ s g. absurd g; state = o }) }
+no-sum cells need nums cand path k h = record { no = λ permitted m o. h .no permitted (record { known = m; state = o }) }
 
 -- where a width or a height is needed, and k masks may reach it, k is not 0
 pub some-left : (w h k : ℕ) → (w ≡ 0 → h ≡ 0 → ⊥) → w ≤ 2 * k → h ≤ 2 * k → 0 < k

@@ -14,7 +14,9 @@ use Rattle.rows.specs.Cells.{Cells, Same, Sum, Residue, At, AtMask, AtSum, CutT
 use Rattle.rows.proofs.Chosen.{chosen-more}
 use Rattle.rows.proofs.Addition.{same-sym, same-trans, to-cell, add-cells, sum-comm}
 use Rattle.rows.proofs.Sums.{Rows16, in-x, in-y}
-use Rattle.completions.specs.Completing.{Fills, Open, Fit, Differs, Spans, Unmet, Masks, Ready, Stepped, numberIn}
+use Rattle.completions.specs.declared.Here.{Here}
+use Rattle.completions.specs.declared.Child.{Child}
+use Rattle.completions.specs.Completing.{Fills, Open, Fit, Differs, Spans, Unmet, Masks, aimOf, partialSum, extentsOf, Ready, Below, Stepped, numberIn}
 use Rattle.completions.proofs.Members.{down, down-counts, not-fit, in-rest, fills-same}
 
 -- ---- what is known does not depend on how the sum is written
@@ -62,25 +64,31 @@ gained a b c d p q f = ⊎-elim (λ e. ⊎-elim (λ g. absurd (f e g)) (λ g. om
 
 -- ---- a mask that is passed over
 
-pub stepped-no : (nums target rest path : List ℕ) (len : ℕ) (need : List ℕ) (m : ℕ) (target′ rest′ path′ : List ℕ) (len′ : ℕ) (need′ : List ℕ)
-    → ((permitted : ℕ → Bool) → Ready permitted nums target rest path len need → T (permitted m) → (L : List ℕ) → Fills permitted (At target) (Sum (AtSum (chosen path len)) (AtMask m)) L → ⊥)
-    → Stepped nums target rest path len need m false target′ rest′ path′ len′ need′
-stepped-no nums target rest path len need m target′ rest′ path′ len′ need′ f = record {
+-- where there is no state nothing is said of one
+pub below-no : (nums : List ℕ) (here : Here) (m : ℕ) (there : Here) → Below nums here m (record { ok = false; here = there })
+below-no nums here m there = record {
   same = λ e. absurd (false≢true e);
   longer = λ e. absurd (false≢true e);
   falls = λ e. absurd (false≢true e);
   ready = λ e. absurd (false≢true e);
-  no = λ e. f;
 }
 
-module _ (nums target rest path : List ℕ) (len : ℕ) (need : List ℕ) (m : ℕ) where
-  abbrev Y : Cells
-  Y = AtSum (chosen path len)
+pub stepped-no : (nums : List ℕ) (here : Here) (m : ℕ)
+    → (here .len < 32 → (permitted : ℕ → Bool) → Ready permitted nums here → T (permitted m) → (L : List ℕ) → Fills permitted (aimOf here) (Sum (partialSum here) (AtMask m)) L → ⊥)
+    → Stepped nums here m (record { ok = false; here = here })
+stepped-no nums here m f = record { outside = λ _. refl; back = λ _. refl; below = below-no nums here m here; no = λ e. f }
 
-  module _ (permitted : ℕ → Bool) (r : Ready permitted nums target rest path len need) (t : T (permitted m)) where
+module _ (nums : List ℕ) (here : Here) (m : ℕ) where
+  abbrev Y : Cells
+  Y = partialSum here
+
+  abbrev rest : List ℕ
+  rest = here .rest
+
+  module _ (permitted : ℕ → Bool) (r : Ready permitted nums here) (t : T (permitted m)) where
     -- a number is above what is needed
-    pub step-unfit : (Fit (numberIn nums) need m → ⊥) → (L : List ℕ) → Fills permitted (At target) (Sum Y (AtMask m)) L → ⊥
-    step-unfit = not-fit permitted (numberIn nums) (At target) Y (At rest) need (r .state) m t
+    pub step-unfit : (Fit (numberIn nums) (here .need) m → ⊥) → (L : List ℕ) → Fills permitted (aimOf here) (Sum Y (AtMask m)) L → ⊥
+    step-unfit = not-fit permitted (numberIn nums) (aimOf here) Y (At rest) (here .need) (r .state) m t
 
     module _ (known : Rows16 rest) (left : List ℕ) (c : CutTo (Residue (At rest) (AtMask m)) left) where
       -- what the mask leaves lies in the window, since the mask has a cell
@@ -92,11 +100,11 @@ module _ (nums target rest path : List ℕ) (len : ℕ) (need : List ℕ) (m : �
             c .from x y h (omega (arith, in-x rest known (x + q .0) (y + q .1 .0) k)) (omega (arith, in-y rest known (x + q .0) (y + q .1 .0) k));
       }
 
-      covered : (L : List ℕ) → Fills permitted (At target) (Sum Y (AtMask m)) L → Same (At target) (Sum (Sum (At left) (AtMask m)) Y)
+      covered : (L : List ℕ) → Fills permitted (aimOf here) (Sum Y (AtMask m)) L → Same (aimOf here) (Sum (Sum (At left) (AtMask m)) Y)
       covered L f = record {
         to = λ x y h.
             let s = f .whole .to x y h in
-            let p = rest-same .from (s .x2) (s .y2) (in-rest permitted (numberIn nums) (At target) Y (At rest) need (r .state) m t L f (s .x2) (s .y2) (s .right)) in
+            let p = rest-same .from (s .x2) (s .y2) (in-rest permitted (numberIn nums) (aimOf here) Y (At rest) (here .need) (r .state) m t L f (s .x2) (s .y2) (s .right)) in
             to-cell (Sum (Sum (At left) (AtMask m)) Y) {x = s .x2 + s .left .x2 + s .left .x1} {y = s .y2 + s .left .y2 + s .left .y1}
             (omega (arith, s .at-x, s .left .at-x)) (omega (arith, s .at-y, s .left .at-y))
             (add-cells (s .x2 + s .left .x2) (s .y2 + s .left .y2) (s .left .x1) (s .left .y1) (add-cells (s .x2) (s .y2) (s .left .x2) (s .left .y2) p (s .left .right)) (s .left .left));
@@ -104,16 +112,16 @@ module _ (nums target rest path : List ℕ) (len : ℕ) (need : List ℕ) (m : �
             let q = s .left in
             let a = rest-same .to (q .x1) (q .y1) (q .left) .all (q .x2) (q .y2) (q .right) in
             let b = r .state .left .to (q .x1 + q .x2) (q .y1 + q .y2) a in
-            to-cell (At target) {x = q .x1 + q .x2 + s .x2} {y = q .y1 + q .y2 + s .y2} (omega (arith, s .at-x, q .at-x)) (omega (arith, s .at-y, q .at-y)) (b .all (s .x2) (s .y2) (s .right));
+            to-cell (aimOf here) {x = q .x1 + q .x2 + s .x2} {y = q .y1 + q .y2 + s .y2} (omega (arith, s .at-x, q .at-x)) (omega (arith, s .at-y, q .at-y)) (b .all (s .x2) (s .y2) (s .right));
       }
 
       -- the path, the mask and what it leaves do not make up the target
-      pub step-uncovered : Differs target left path len m → (L : List ℕ) → Fills permitted (At target) (Sum Y (AtMask m)) L → ⊥
+      pub step-uncovered : Differs (here .target) left (here .path) (here .len) m → (L : List ℕ) → Fills permitted (aimOf here) (Sum Y (AtMask m)) L → ⊥
       step-uncovered d L f = d (covered L f)
 
       -- what is left has not the extents that are needed, or nothing was gained of them
-      pub step-unmet : (left′ : List ℕ) → ((i : ℕ) → i < 18 → getD left′ i 0 ≡ getD need i 0 - numberIn nums i m) → Fit (numberIn nums) need m → Unmet (At left) need left′
-          → (L : List ℕ) → Fills permitted (At target) (Sum Y (AtMask m)) L → ⊥
+      pub step-unmet : (left′ : List ℕ) → ((i : ℕ) → i < 18 → getD left′ i 0 ≡ getD (here .need) i 0 - numberIn nums i m) → Fit (numberIn nums) (here .need) m → Unmet (At left) (here .need) left′
+          → (L : List ℕ) → Fills permitted (aimOf here) (Sum Y (AtMask m)) L → ⊥
       step-unmet left′ g b u L f = ⊎-elim
           (λ n. n (spans-in (number 16 (omega arith)) (number 17 (omega arith)) inside (sum-spans permitted nums (r .known) L (f .masks))))
           (λ n.
@@ -128,42 +136,40 @@ module _ (nums target rest path : List ℕ) (len : ℕ) (need : List ℕ) (m : �
           u
         where
           inside : (x y : ℕ) → AtSum L x y → At left x y
-          inside x y h = rest-same .from x y (in-rest permitted (numberIn nums) (At target) Y (At rest) need (r .state) m t L f x y h)
+          inside x y h = rest-same .from x y (in-rest permitted (numberIn nums) (aimOf here) Y (At rest) (here .need) (r .state) m t L f x y h)
 
           number : (i : ℕ) → i < 18 → summed (numberIn nums i) L ≡ getD left′ i 0
-          number i l = let c = down-counts permitted (numberIn nums) (At target) Y (At rest) need (r .state) m t L f i l in let d = g i l in omega arith
+          number i l = let c = down-counts permitted (numberIn nums) (aimOf here) Y (At rest) (here .need) (r .state) m t L f i l in let d = g i l in omega arith
 
       -- the state below
-      below-ready : (need′ : List ℕ) → ((i : ℕ) → i < 18 → getD need′ i 0 ≡ getD need i 0 - numberIn nums i m) → (path′ : List ℕ) (len′ : ℕ) → chosen path′ len′ ≡ m ∷ chosen path len
-          → Ready permitted nums target left path′ len′ need′
+      below-ready : (need′ : List ℕ) → ((i : ℕ) → i < 18 → getD need′ i 0 ≡ getD (here .need) i 0 - numberIn nums i m) → (path′ : List ℕ) (len′ : ℕ) → chosen path′ len′ ≡ m ∷ chosen (here .path) (here .len)
+          → Ready permitted nums (record { target = here .target; rest = left; path = path′; len = len′; need = need′ })
       below-ready need′ g path′ len′ e = record {
         known = r .known;
-        way = λ s h. ⊎-elim (λ d. subst (λ (k : ℕ). T (permitted k)) (sym d) t) (r .way s) (subst (λ (ms : List ℕ). In ms s) e h);
-        state = subst (λ (ms : List ℕ). Open permitted (numberIn nums) (At target) (AtSum ms) (At left) need′) (sym e)
-            (open-same permitted (numberIn nums) (At target) (Sum Y (AtMask m)) (Sum (AtMask m) Y) (At left) need′ sum-comm
-            (down permitted (numberIn nums) (At target) Y (At rest) need (r .state) m t (At left) need′ rest-same g));
+        state = subst (λ (ms : List ℕ). Open permitted (numberIn nums) (aimOf here) (AtSum ms) (At left) need′) (sym e)
+            (open-same permitted (numberIn nums) (aimOf here) (Sum Y (AtMask m)) (Sum (AtMask m) Y) (At left) need′ sum-comm
+            (down permitted (numberIn nums) (aimOf here) Y (At rest) (here .need) (r .state) m t (At left) need′ rest-same g));
       }
 
-  pub stepped-yes : Rows16 rest → (left need′ : List ℕ) → CutTo (Residue (At rest) (AtMask m)) left → ((i : ℕ) → i < 18 → getD need′ i 0 ≡ getD need i 0 - numberIn nums i m) → len < length path
-      → getD need′ 16 0 + getD need′ 17 0 < getD need 16 0 + getD need 17 0 → Stepped nums target rest path len need m true target left (set path len m) (len + 1) need′
-  stepped-yes known left need′ c g l v = let e = chosen-more path len m l in record {
-    same = λ _. refl;
-    longer = λ _. (e, refl);
-    falls = λ _. v;
-    ready = λ _ permitted r t. below-ready permitted r t known left c need′ g (set path len m) (len + 1) e;
+  pub stepped-yes : Rows16 rest → (left need′ : List ℕ) → CutTo (Residue (At rest) (AtMask m)) left → ((i : ℕ) → i < 18 → getD need′ i 0 ≡ getD (here .need) i 0 - numberIn nums i m)
+      → here .len < 32 → length (here .path) ≡ 32 → getD need′ 16 0 + getD need′ 17 0 < extentsOf here
+      → Stepped nums here m (record { ok = true; here = record { target = here .target; rest = left; path = set (here .path) (here .len) m; len = here .len + 1; need = need′ } })
+  stepped-yes known left need′ c g l w v = let e = chosen-more (here .path) (here .len) m (omega arith) in record {
+    outside = λ d. absurd (omega arith);
+    back = λ d. absurd (true≢false d);
+    below = record {
+      same = λ _. refl;
+      longer = λ _. (e, refl);
+      falls = λ _. v;
+      ready = λ _ permitted r t. below-ready permitted r t known left c need′ g (set (here .path) (here .len) m) (here .len + 1) e;
+    };
     no = λ d. absurd (true≢false d);
   }
 
 -- what completes the sum with m completes the sum of the state below
-pub below-fills : (permitted : ℕ → Bool) (target path : List ℕ) (len m : ℕ) (target′ path′ : List ℕ) (len′ : ℕ) → target′ ≡ target → chosen path′ len′ ≡ m ∷ chosen path len → (L : List ℕ)
-    → Fills permitted (At target) (Sum (AtSum (chosen path len)) (AtMask m)) L → Fills permitted (At target′) (AtSum (chosen path′ len′)) L
-below-fills permitted target path len m target′ path′ len′ e g L f =
-    subst (λ (A : List ℕ). Fills permitted (At A) (AtSum (chosen path′ len′)) L) (sym e)
-    (subst (λ (ms : List ℕ). Fills permitted (At target) (AtSum ms) L) (sym g)
-    (fills-same permitted (At target) (Sum (AtSum (chosen path len)) (AtMask m)) (Sum (AtMask m) (AtSum (chosen path len))) L sum-comm f))
-
-pub stepped-fills : (nums target rest path : List ℕ) (len : ℕ) (need : List ℕ) (m : ℕ) (ok : Bool) (target′ rest′ path′ : List ℕ) (len′ : ℕ) (need′ : List ℕ)
-    → Stepped nums target rest path len need m ok target′ rest′ path′ len′ need′ → ok ≡ true → (permitted : ℕ → Bool) (L : List ℕ)
-    → Fills permitted (At target) (Sum (AtSum (chosen path len)) (AtMask m)) L → Fills permitted (At target′) (AtSum (chosen path′ len′)) L
-stepped-fills nums target rest path len need m ok target′ rest′ path′ len′ need′ st e permitted L f =
-    below-fills permitted target path len m target′ path′ len′ (st .same e) (st .longer e .0) L f
+pub below-fills : (nums : List ℕ) (here : Here) (m : ℕ) (r : Child) → Below nums here m r → r .ok ≡ true → (permitted : ℕ → Bool) (L : List ℕ)
+    → Fills permitted (aimOf here) (Sum (partialSum here) (AtMask m)) L → Fills permitted (aimOf (r .here)) (partialSum (r .here)) L
+below-fills nums here m r b e permitted L f =
+    subst (λ (A : List ℕ). Fills permitted (At A) (partialSum (r .here)) L) (sym (b .same e))
+    (subst (λ (ms : List ℕ). Fills permitted (aimOf here) (AtSum ms) L) (sym (b .longer e .0))
+    (fills-same permitted (aimOf here) (Sum (partialSum here) (AtMask m)) (Sum (AtMask m) (partialSum here)) L sum-comm f))

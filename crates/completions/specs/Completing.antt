@@ -10,6 +10,8 @@ use lib.ListN.{length, getD}
 use Rattle.plane.specs.Lists.{In}
 use Rattle.edges.specs.Edges.{summed}
 use Rattle.rows.specs.Cells.{Cells, Same, Sum, Residue, At, AtMask, AtOrigin, AtSum, chosen}
+use Rattle.completions.specs.declared.Here.{Here}
+use Rattle.completions.specs.declared.Child.{Child}
 
 -- the masks L, each permitted, complete Y to A
 pub record Fills (permitted : ℕ → Bool) (A Y : Cells) (L : List ℕ) : Type 0 where
@@ -31,13 +33,13 @@ pub record None (permitted : ℕ → Bool) (A Y : Cells) (xs : List ℕ) (n k : 
   pub no : (L : List ℕ) → Fills permitted A Y L → From xs n L → length L ≤ k → ⊥
 
 -- none of them with m among them
-pub record NoneWith (permitted : ℕ → Bool) (A Y : Cells) (xs : List ℕ) (n k m : ℕ) : Type 0 where
+pub record NoneThrough (permitted : ℕ → Bool) (A Y : Cells) (xs : List ℕ) (n k m : ℕ) : Type 0 where
   pub no : (L : List ℕ) → Fills permitted A Y (m ∷ L) → From xs n L → length L < k → ⊥
 
 -- of the first n of xs those from r on were tried: what completes Y to A has none of them
-pub record Tried (permitted : ℕ → Bool) (A Y : Cells) (xs : List ℕ) (n r k : ℕ) : Type 0 where
+pub record Spent (permitted : ℕ → Bool) (A Y : Cells) (xs : List ℕ) (n r k : ℕ) : Type 0 where
   pub left : (L : List ℕ) → Fills permitted A Y L → From xs n L → length L ≤ k → From xs r L
-  pub gone : (j : ℕ) → r ≤ j → j < n → NoneWith permitted A Y xs n k (getD xs j 0)
+  pub gone : (j : ℕ) → r ≤ j → j < n → NoneThrough permitted A Y xs n k (getD xs j 0)
 
 -- what is known of a partial sum Y: the residue of the target, and the eighteen numbers that what completes it has in all
 pub record Open (permitted : ℕ → Bool) (num : ℕ → ℕ → ℕ) (A Y T : Cells) (need : List ℕ) : Type 0 where
@@ -72,56 +74,48 @@ pub record Masks (permitted : ℕ → Bool) (nums : List ℕ) : Type 0 where
   pub spans : (m : ℕ) → T (permitted m) → Spans (AtMask m) (numberIn nums 16 m) (numberIn nums 17 m)
   pub some : (m : ℕ) → T (permitted m) → 1 ≤ numberIn nums 16 m + numberIn nums 17 m
 
+-- the target of a state, and its partial sum
+abbrev pub aimOf : Here → Cells
+aimOf here = At (here .target)
+
+abbrev pub partialSum : Here → Cells
+partialSum here = AtSum (chosen (here .path) (here .len))
+
+-- the width and the height that are needed, together
+abbrev pub extentsOf : Here → ℕ
+extentsOf here = getD (here .need) 16 0 + getD (here .need) 17 0
+
 -- what a state keeps: the path has the masks of the partial sum, rest its residue, and need the numbers that are needed
-pub record Ready (permitted : ℕ → Bool) (nums target rest path : List ℕ) (len : ℕ) (need : List ℕ) : Type 0 where
+pub record Ready (permitted : ℕ → Bool) (nums : List ℕ) (here : Here) : Type 0 where
   pub known : Masks permitted nums
-  pub way : (m : ℕ) → In (chosen path len) m → T (permitted m)
-  pub state : Open permitted (numberIn nums) (At target) (AtSum (chosen path len)) (At rest) need
+  pub state : Open permitted (numberIn nums) (aimOf here) (partialSum here) (At (here .rest)) (here .need)
 
--- the state below by the mask m, or that nothing completes the sum with m
-pub record Stepped (nums target rest path : List ℕ) (len : ℕ) (need : List ℕ) (m : ℕ) (ok : Bool) (target′ rest′ path′ : List ℕ) (len′ : ℕ) (need′ : List ℕ) : Type 0 where
-  pub same : ok ≡ true → target′ ≡ target
-  pub longer : ok ≡ true → (chosen path′ len′ ≡ m ∷ chosen path len) × (len′ ≡ len + 1)
-  pub falls : ok ≡ true → getD need′ 16 0 + getD need′ 17 0 < getD need 16 0 + getD need 17 0
-  pub ready : ok ≡ true → (permitted : ℕ → Bool) → Ready permitted nums target rest path len need → T (permitted m) → Ready permitted nums target′ rest′ path′ len′ need′
-  pub no : ok ≡ false → (permitted : ℕ → Bool) → Ready permitted nums target rest path len need → T (permitted m) → (L : List ℕ)
-      → Fills permitted (At target) (Sum (AtSum (chosen path len)) (AtMask m)) L → ⊥
+-- where r is a state, it is the state below by the mask m
+pub record Below (nums : List ℕ) (here : Here) (m : ℕ) (r : Child) : Type 0 where
+  pub same : r .ok ≡ true → r .here .target ≡ here .target
+  pub longer : r .ok ≡ true → (chosen (r .here .path) (r .here .len) ≡ m ∷ chosen (here .path) (here .len)) × (r .here .len ≡ here .len + 1)
+  pub falls : r .ok ≡ true → extentsOf (r .here) < extentsOf here
+  pub ready : r .ok ≡ true → (permitted : ℕ → Bool) → Ready permitted nums here → T (permitted m) → Ready permitted nums (r .here)
 
--- of xs, those of the first n that fit what is needed are among the first n′ of xs′
-pub record Fitting (nums need xs : List ℕ) (n : ℕ) (xs′ : List ℕ) (n′ : ℕ) : Type 0 where
-  pub all : (m : ℕ) → m < 512 → Among xs n m → Fit (numberIn nums) need m → Among xs′ n′ m
-  pub only : (m : ℕ) → Among xs′ n′ m → Among xs n m
-  pub few : n′ ≤ n
-  pub room : n′ ≤ 512
-
--- the first n of xs are the first n of xs′, of which the first p are without number i
-pub record Split (nums xs : List ℕ) (n i : ℕ) (xs′ : List ℕ) (p : ℕ) : Type 0 where
-  pub all : (m : ℕ) → m < 512 → Among xs n m → Among xs′ n m
-  pub only : (m : ℕ) → Among xs′ n m → Among xs n m
-  pub without : (m : ℕ) → m < 512 → Among xs′ p m → numberIn nums i m ≡ 0
-  pub order : p ≤ n
-  pub long : length xs′ ≡ 512
-
--- xs has the first p of list and then the first q of other
-pub record Joined (list : List ℕ) (p : ℕ) (other : List ℕ) (q : ℕ) (xs : List ℕ) : Type 0 where
-  pub first : (m : ℕ) → Among list p m → Among xs (p + q) m
-  pub behind : (m : ℕ) → Among other q m → Among xs (p + q) m
-  pub back : (m : ℕ) → Among xs p m → Among list p m
-  pub only : (m : ℕ) → Among xs (p + q) m → Among list p m ⊎ Among other q m
-  pub long : length xs ≡ 512
+-- the state below by the mask m, or that nothing completes the sum with m, with the state as it was; a path of 32 has no room for m
+pub record Stepped (nums : List ℕ) (here : Here) (m : ℕ) (r : Child) : Type 0 where
+  pub outside : 32 ≤ here .len → r .ok ≡ false
+  pub back : r .ok ≡ false → r .here ≡ here
+  pub below : Below nums here m r
+  pub no : r .ok ≡ false → here .len < 32 → (permitted : ℕ → Bool) → Ready permitted nums here → T (permitted m) → (L : List ℕ) → Fills permitted (aimOf here) (Sum (partialSum here) (AtMask m)) L → ⊥
 
 -- each mask of a list is permitted
 abbrev pub Allowed : (ℕ → Bool) → List ℕ → Type 0
 Allowed permitted xs = (m : ℕ) → Among xs (length xs) m → T (permitted m)
 
 -- nothing completes the sum of a state with k masks of a list or fewer
-pub record NoneHere (nums target rest path : List ℕ) (len : ℕ) (need cand : List ℕ) (k : ℕ) : Type 0 where
-  pub no : (permitted : ℕ → Bool) → Ready permitted nums target rest path len need → Allowed permitted cand → None permitted (At target) (AtSum (chosen path len)) cand (length cand) k
+pub record NoneHere (nums : List ℕ) (here : Here) (cand : List ℕ) (k : ℕ) : Type 0 where
+  pub no : (permitted : ℕ → Bool) → Ready permitted nums here → Allowed permitted cand → None permitted (aimOf here) (partialSum here) cand (length cand) k
 
 -- nor with the mask before r among them, where those from r on were tried
-pub record NoneBefore (nums target rest path : List ℕ) (len : ℕ) (need list : List ℕ) (r k : ℕ) : Type 0 where
-  pub no : (permitted : ℕ → Bool) → Ready permitted nums target rest path len need → Allowed permitted list → Tried permitted (At target) (AtSum (chosen path len)) list (length list) r k
-      → (j : ℕ) → suc j ≡ r → NoneWith permitted (At target) (AtSum (chosen path len)) list r k (getD list j 0)
+pub record NoneBefore (nums : List ℕ) (here : Here) (list : List ℕ) (r k : ℕ) : Type 0 where
+  pub no : (permitted : ℕ → Bool) → Ready permitted nums here → Allowed permitted list → Spent permitted (aimOf here) (partialSum here) list (length list) r k
+      → (j : ℕ) → suc j ≡ r → NoneThrough permitted (aimOf here) (partialSum here) list r k (getD list j 0)
 
 -- ---- sums and residues by a mask
 

@@ -2,32 +2,30 @@
 -- the target.
 use mathlib.Core.Path.{_≡_}
 use mathlib.Core.Bool.{Bool, true, false}
-use mathlib.Core.List.{List, _∷_}
+use mathlib.Core.List.{List}
 use Prim.Native.Nat.{ℕ, _+_, _≤_, _<_}
 use lib.Dec.{T}
-use lib.ListN.{length, getD}
-use Rattle.rows.specs.Cells.{Same, Sum, Residue, At, AtMask, AtSum, chosen}
-use Rattle.completions.specs.Completing.{Fills, From, Ready, Allowed}
+use lib.ListN.{length}
+use Rattle.rows.specs.Cells.{Same, Sum, Residue, At, AtMask}
+use Rattle.completions.specs.declared.Here.{Here}
+use Rattle.completions.specs.declared.Child.{Child}
+use Rattle.completions.specs.Completing.{Fills, From, aimOf, partialSum, Ready, Below, Allowed}
 
--- there is room for a table of 512 masks, a list of as many, and a path of 32 with k masks after the next
-pub record Room (nums cand : List ℕ) (len k : ℕ) : Type 0 where
-  pub table : length nums ≡ 9216
+-- there is room for a list of 512 masks, and a path of 32 with k masks after the next
+pub record Roomy (cand : List ℕ) (len k : ℕ) : Type 0 where
   pub list : length cand ≤ 512
   pub path : len + k < 32
 
 -- the partial sum below by the mask m, or that k masks of the list or fewer do not complete the sum with m, with the state as it was
-pub record Opened (nums cand target rest path : List ℕ) (len : ℕ) (need : List ℕ) (m k : ℕ) (ok : Bool) (target′ rest′ path′ : List ℕ) (len′ : ℕ) (need′ : List ℕ) : Type 0 where
-  pub outside : (Room nums cand len k → ⊥) → ok ≡ false
-  pub back : ok ≡ false → (target′ ≡ target) × (rest′ ≡ rest) × (path′ ≡ path) × (len′ ≡ len) × (need′ ≡ need)
-  pub same : ok ≡ true → target′ ≡ target
-  pub longer : ok ≡ true → (chosen path′ len′ ≡ m ∷ chosen path len) × (len′ ≡ len + 1)
-  pub falls : ok ≡ true → getD need′ 16 0 + getD need′ 17 0 < getD need 16 0 + getD need 17 0
-  pub ready : ok ≡ true → (permitted : ℕ → Bool) → Ready permitted nums target rest path len need → T (permitted m) → Ready permitted nums target′ rest′ path′ len′ need′
-  pub no : ok ≡ false → Room nums cand len k → (permitted : ℕ → Bool) → Ready permitted nums target rest path len need → Allowed permitted cand → T (permitted m)
-      → (L : List ℕ) → Fills permitted (At target) (Sum (AtSum (chosen path len)) (AtMask m)) L → From cand (length cand) L → length L ≤ k → ⊥
+pub record Opened (nums cand : List ℕ) (here : Here) (m k : ℕ) (r : Child) : Type 0 where
+  pub outside : (Roomy cand (here .len) k → ⊥) → r .ok ≡ false
+  pub back : r .ok ≡ false → r .here ≡ here
+  pub below : Below nums here m r
+  pub no : r .ok ≡ false → Roomy cand (here .len) k → (permitted : ℕ → Bool) → Ready permitted nums here → Allowed permitted cand → T (permitted m)
+      → (L : List ℕ) → Fills permitted (aimOf here) (Sum (partialSum here) (AtMask m)) L → From cand (length cand) L → length L ≤ k → ⊥
 
 -- whether the masks of the path, 32 at most, sum to the target, where rest is the residue
-pub record Finished (target rest path : List ℕ) (len : ℕ) (r : Bool) : Type 0 where
-  pub few : r ≡ true → len ≤ 32
-  pub whole : r ≡ true → Same (At rest) (Residue (At target) (AtSum (chosen path len))) → Same (At target) (AtSum (chosen path len))
-  pub part : r ≡ false → len ≤ 32 → Same (At rest) (Residue (At target) (AtSum (chosen path len))) → Same (At target) (AtSum (chosen path len)) → ⊥
+pub record Finished (here : Here) (r : Bool) : Type 0 where
+  pub few : r ≡ true → here .len ≤ 32
+  pub whole : r ≡ true → Same (At (here .rest)) (Residue (aimOf here) (partialSum here)) → Same (aimOf here) (partialSum here)
+  pub part : r ≡ false → here .len ≤ 32 → Same (At (here .rest)) (Residue (aimOf here) (partialSum here)) → Same (aimOf here) (partialSum here) → ⊥

@@ -1,137 +1,25 @@
-// The quick search: whether masks of a list can still complete a partial sum. It is one-sided: `false` says that none do, `true` promises nothing.
-// `node` and `stage` call each other: a node picks a number that is still needed and tries the masks that have it, and a stage opens the sum below.
-// `numbers` holds masks against what is needed, `pools` has the lists of a node, `steps` the partial sums.
-mod numbers;
-mod pools;
-mod steps;
+// The quick search: what its answers say and why they hold is in specs/ and proofs/; `pool_steps`, `path_steps` and `completion_steps` have its functions.
+// It is one-sided: that no masks complete a partial sum is said, that some do is not. Here are the values that its functions hand on.
+// It builds on rows (sums and residues of cells) and edges (the eighteen numbers of a mask).
 
-pub use steps::Child;
-pub use steps::Here;
-pub use steps::finished;
-ghost use mathlib.Core.Path.{_≡_};
-ghost use mathlib.Core.Bool.{true, false};
-ghost use Prim.Native.Nat.{_+_, _≤_, _<_};
-ghost use lib.ListN.{length};
-ghost use Rattle.completions.specs.Completing.{NoneHere, NoneBefore, NoSum};
-ghost use Rattle.completions.specs.Opening.{Opened};
-
-// Whether k masks of the list or fewer may complete the sum; false says that none do. Some number is needed still: the masks that have it are tried, from the
-// last, each over the list up to it, since what completes the sum has it or has it not.
-fn node(here: Here, nums: &[u8], cand: &[u16], k: usize) -> bool
-    requires { ⌜ ((here .len + k) ≤ 32) × ((length (now nums) ≡ 9216) × (length (now cand) ≤ 512)) ⌝ }
-    ensures { λ r. ⌜ (r ≡ false → NoneHere (now (nums .entry)) (here .target) (here .rest) (here .path) (here .len) (here .need) (now (cand .entry)) k) ⌝ }
-{
-    let need = here.need;
-    let w = need[16] as usize;
-    let h = need[17] as usize;
-    if w == 0 {
-        if h == 0 {
-            return true;
-        }
-    }
-    if 2 * k < w {
-        return false;
-    }
-    if 2 * k < h {
-        return false;
-    }
-    let mut fit = [0u16; 512];
-    let n = pools::fitted(need, nums, cand, &mut fit);
-    let count = pools::tally(nums, &fit, n);
-    let i = pools::scarce(need, count);
-    if i == 18 {
-        return true;
-    }
-    let mut list = [0u16; 512];
-    let p = pools::split(nums, i, &fit, n, &mut list);
-    let mut r = n;
-    while p < r {
-        if stage(here, nums, &list[0..n], r, k) {
-            return true;
-        }
-        r -= 1;
-    }
-    false
+// A partial sum: the target, the residue target ⊖ sum, the masks of the sum, and the numbers that are needed still.
+pub struct Here {
+    pub target: [u16; 16],
+    pub rest: [u16; 16],
+    pub path: [u16; 32],
+    pub len: usize,
+    pub need: [u8; 18],
 }
 
-// The same with the mask before r among them, over the list up to it, where those from r on were tried.
-fn stage(here: Here, nums: &[u8], list: &[u16], r: usize, k: usize) -> bool
-    requires { ⌜ (0 < k) × (((here .len + k) ≤ 32) × ((length (now nums) ≡ 9216) × ((0 < r) × ((r ≤ length (now list)) × (length (now list) ≤ 512))))) ⌝ }
-    ensures { λ b. ⌜ (b ≡ false → NoneBefore (now (nums .entry)) (here .target) (here .rest) (here .path) (here .len) (here .need) (now (list .entry)) r k) ⌝ }
-{
-    let m = list[r - 1];
-    let t = here.rest;
-    if steps::replaced(t, list, r, m) < list.len() {
-        return false;
-    }
-    let c = steps::step(here, nums, m);
-    if !c.ok {
-        return false;
-    }
-    let below = c.here;
-    node(below, nums, &list[0..r], k - 1)
+// The partial sum below, or none.
+pub struct Child {
+    pub ok: bool,
+    pub here: Here,
 }
 
-// Whether k masks of the list or fewer may sum to the cells; false says that none do. nums has eighteen numbers for each mask, and need those of the cells.
-pub fn may_sum(cells: [u16; 16], need: [u8; 18], nums: &[u8], cand: &[u16], k: usize) -> bool
-    ensures { λ r. ⌜ (r ≡ false → NoSum cells need (now (nums .entry)) (now (cand .entry)) k) ⌝ }
-{
-    if 32 < k {
-        return true;
-    }
-    if nums.len() != 9216 {
-        return true;
-    }
-    if 512 < cand.len() {
-        return true;
-    }
-    let path = [0u16; 32];
-    let here = Here {
-        target: cells,
-        rest: cells,
-        path: path,
-        len: 0,
-        need: need,
-    };
-    node(here, nums, cand, k)
-}
-
-// Whether a table of n numbers, a list of c masks and a path of len with k masks after the next are within bounds.
-fn roomy(n: usize, c: usize, len: usize, k: usize) -> bool
-    ensures yes { λ r. ⌜ (r ≡ true → (n ≡ 9216) × ((c ≤ 512) × ((len + k) < 32))) ⌝ }
-    ensures no { λ r. ⌜ (r ≡ false → n ≡ 9216 → c ≤ 512 → (len + k) < 32 → ⊥) ⌝ }
-{
-    if n != 9216 {
-        return false;
-    }
-    if 512 < c {
-        return false;
-    }
-    if 31 < len {
-        return false;
-    }
-    k <= 31 - len
-}
-
-// The partial sum below by the mask m, where k masks of the list or fewer may complete it.
-pub fn opened(here: Here, nums: &[u8], cand: &[u16], m: u16, k: usize) -> Child
-    ensures { λ r. ⌜ Opened (now (nums .entry)) (now (cand .entry)) (here .target) (here .rest) (here .path) (here .len) (here .need) m k (r .ok) (r .here .target) (r .here .rest) (r .here .path) (r .here .len) (r .here .need) ⌝ }
-{
-    let none = Child {
-        ok: false,
-        here: here,
-    };
-    let len = here.len;
-    if !roomy(nums.len(), cand.len(), len, k) {
-        return none;
-    }
-    let c = steps::step(here, nums, m);
-    if !c.ok {
-        return none;
-    }
-    let below = c.here;
-    if !node(below, nums, cand, k) {
-        return none;
-    }
-    c
+// What a list was divided by: a number, or 18; how many masks of the list are without it, and how many there are.
+pub struct Branch {
+    pub number: usize,
+    pub without: usize,
+    pub count: usize,
 }

@@ -5,7 +5,7 @@ ghost use lib.ListN.{length};
 ghost use Rattle.planning.specs.Planning.{Planned};
 ghost use Rattle.rows.specs.Cells.{chosen};
 ghost use Rattle.planner.specs.Written.{WrittenPlan};
-use search::Chosen;
+use search_steps::Chosen;
 use words::Answer;
 use words::Ground;
 
@@ -39,7 +39,7 @@ pub fn plan(ws: &[u32], out: &mut [u32]) -> Answer
     }
     let s = shaping::read_shape(ws);
     let cells = s.rows;
-    let p = search::shortest(cells);
+    let p = search_steps::shortest(cells);
     if !p.found {
         return Answer::Refused(Ground::NoChain);
     }

@@ -16,10 +16,12 @@ use Rattle.masks.specs.Chain.{falling, smaller}
 use Rattle.masks.specs.Mask.{stage}
 use Rattle.masks.proofs.Cells.{stage-below}
 use Rattle.rows.specs.Cells.{Cells, Same, Sum, At, AtMask, AtSum, chosen}
-use Rattle.search.specs.Tree.{Completes, Answer, NoneWith, Passed}
+use Rattle.search.specs.Tree.{Completes, FirstLine, NoneFirst, Narrowed}
 use Rattle.search.specs.Asking.{Led}
-use Rattle.completions.specs.Completing.{Among, Ready, Allowed}
-use Rattle.completions.specs.Opening.{Room}
+use Rattle.completions.specs.declared.Here.{Here}
+use Rattle.completions.specs.declared.Child.{Child}
+use Rattle.completions.specs.Completing.{Among, aimOf, partialSum, Ready, Allowed}
+use Rattle.completions.specs.Opening.{Roomy}
 use Rattle.rows.proofs.Chosen.{chosen-set}
 use Rattle.rows.proofs.Addition.{same-refl, same-sym, same-trans, sum-both, sum-comm, sum-assoc, sum-origin}
 
@@ -59,7 +61,7 @@ module _ (permitted : ℕ → Bool) where
     -- ---- no stage is left
 
     pub at-leaf : (k m : ℕ) (found : Bool) (masks : List ℕ) → k ≡ 0 → (found ≡ true → Same A Y) → (found ≡ false → Same A Y → ⊥) → ((i : ℕ) → getD masks i 0 ≡ 0)
-        → Answer permitted A Y k m found masks
+        → FirstLine permitted A Y k m found masks
     unfolding chosen
     at-leaf zero m found masks z f g past = record {
       sound = λ e. record { stages = tt; rising = tt; sum = same-trans (f e) (same-sym sum-origin) };
@@ -80,11 +82,11 @@ module _ (permitted : ℕ → Bool) where
     -- ---- the masks in turn
 
     module _ (k m : ℕ) (p : 0 < k) where
-      pub passed-none : Passed permitted A Y k m m
+      pub passed-none : Narrowed permitted A Y k m m
       passed-none = record { from = le-refl m; later = λ ns l c. c }
 
       -- mask i is not permitted, or no list has it first
-      pub passed-more : (i : ℕ) → Passed permitted A Y k m i → (T (permitted i) → NoneWith permitted A Y k i) → Passed permitted A Y k m (i + 1)
+      pub passed-more : (i : ℕ) → Narrowed permitted A Y k m i → (T (permitted i) → NoneFirst permitted A Y k i) → Narrowed permitted A Y k m (i + 1)
       passed-more i P shut = record { from = omega (arith, P .from); later = λ ns l c. go ns l (P .later ns l c) }
         where
           go : (ns : List ℕ) → length ns ≡ k → Completes permitted A Y i ns → Completes permitted A Y (i + 1) ns
@@ -99,7 +101,7 @@ module _ (permitted : ℕ → Bool) where
               (eq-or-lt-of-le (h .0))
 
       -- the first list from i on is the first from m on
-      pub passed-found : (i : ℕ) (masks : List ℕ) → Passed permitted A Y k m i → Answer permitted A Y k i true masks → Answer permitted A Y k m true masks
+      pub passed-found : (i : ℕ) (masks : List ℕ) → Narrowed permitted A Y k m i → FirstLine permitted A Y k i true masks → FirstLine permitted A Y k m true masks
       passed-found i masks P a = record {
         sound = λ e. lower m i (chosen masks k) (P .from) (a .sound e);
         first = λ e ns l c. a .first e ns l (P .later ns l c);
@@ -108,8 +110,8 @@ module _ (permitted : ℕ → Bool) where
       }
 
       -- no mask is left
-      pub passed-all : (i : ℕ) (masks : List ℕ) → ((n : ℕ) → T (permitted n) → T (stage n)) → Passed permitted A Y k m i → 512 ≤ i → ((j : ℕ) → getD masks j 0 ≡ 0)
-          → Answer permitted A Y k m false masks
+      pub passed-all : (i : ℕ) (masks : List ℕ) → ((n : ℕ) → T (permitted n) → T (stage n)) → Narrowed permitted A Y k m i → 512 ≤ i → ((j : ℕ) → getD masks j 0 ≡ 0)
+          → FirstLine permitted A Y k m false masks
       passed-all i masks st P q past = record {
         sound = λ e. absurd (false≢true e);
         first = λ e. absurd (false≢true e);
@@ -124,7 +126,7 @@ module _ (permitted : ℕ → Bool) where
     -- ---- a stage put before what completes the sum below it
 
     module _ (k m : ℕ) (p : 0 < k) (pm : T (permitted m)) (Z : Cells) (z : Same Z (Sum Y (AtMask m))) where
-      pub none-with : (masks : List ℕ) → Answer permitted A Z (k - 1) m false masks → NoneWith permitted A Y k m
+      pub none-with : (masks : List ℕ) → FirstLine permitted A Z (k - 1) m false masks → NoneFirst permitted A Y k m
       none-with masks a ns l c = a .none refl ns l (completes-same m ns (same-sym z) c)
 
       not-smaller : (ns : List ℕ) (L : List ℕ) → length ns ≡ k → Completes permitted A Y m ns
@@ -142,7 +144,7 @@ module _ (permitted : ℕ → Bool) where
                 clash (smaller ns L) (f ns r (completes-same m ns (same-sym z) (subst (λ n. Completes permitted A (Sum Y (AtMask n)) n ns) e (h .2)))) (u .1)),
           )
 
-      pub put-first : (masks : List ℕ) → k ≤ length masks → Answer permitted A Z (k - 1) m true masks → Answer permitted A Y k m true (set masks (k - 1) m)
+      pub put-first : (masks : List ℕ) → k ≤ length masks → FirstLine permitted A Z (k - 1) m true masks → FirstLine permitted A Y k m true (set masks (k - 1) m)
       put-first masks room a =
           let e = chosen-set masks k m p room in
           record {
@@ -153,24 +155,23 @@ module _ (permitted : ℕ → Bool) where
           }
 
 -- what the partial sum below says of that above it
-module _ (permitted : ℕ → Bool) (nums cand target rest path : List ℕ) (len : ℕ) (need : List ℕ) (k m : ℕ) (ok : Bool) (target′ rest′ path′ : List ℕ) (len′ : ℕ) (need′ : List ℕ)
-    (b : Led nums cand target rest path len need (k - 1) m ok target′ rest′ path′ len′ need′) where
+module _ (permitted : ℕ → Bool) (nums cand : List ℕ) (here : Here) (k m : ℕ) (r : Child) (b : Led nums cand here (k - 1) m r) where
   abbrev Y : Cells
-  Y = AtSum (chosen path len)
+  Y = partialSum here
 
   -- no list has m first
-  pub below-none : ok ≡ false → Room nums cand len (k - 1) → Ready permitted nums target rest path len need → Allowed permitted cand → ((s : ℕ) → T (permitted s) → Among cand (length cand) s)
-      → T (permitted m) → NoneWith permitted (At target) Y k m
-  below-none e room r a every pm ns l c = b .no e room permitted r a every pm ns l (c .stages) (c .sum)
+  pub below-none : r .ok ≡ false → Roomy cand (here .len) (k - 1) → Ready permitted nums here → Allowed permitted cand → ((s : ℕ) → T (permitted s) → Among cand (length cand) s)
+      → T (permitted m) → NoneFirst permitted (aimOf here) Y k m
+  below-none e room s a every pm ns l c = b .no e room permitted s a every pm ns l (c .stages) (c .sum)
 
-  module _ (e : ok ≡ true) (p : 0 < k) (pm : T (permitted m)) (found : Bool) (masks : List ℕ) (a : Answer permitted (At target′) (AtSum (chosen path′ len′)) (k - 1) m found masks) where
-    here : Answer permitted (At target) (Sum (AtMask m) Y) (k - 1) m found masks
-    here = subst (λ (ms : List ℕ). Answer permitted (At target) (AtSum ms) (k - 1) m found masks) (b .longer e .0)
-        (subst (λ (l : List ℕ). Answer permitted (At l) (AtSum (chosen path′ len′)) (k - 1) m found masks) (b .same e) a)
+  module _ (e : r .ok ≡ true) (p : 0 < k) (pm : T (permitted m)) (found : Bool) (masks : List ℕ) (a : FirstLine permitted (aimOf (r .here)) (partialSum (r .here)) (k - 1) m found masks) where
+    above : FirstLine permitted (aimOf here) (Sum (AtMask m) Y) (k - 1) m found masks
+    above = subst (λ (ms : List ℕ). FirstLine permitted (aimOf here) (AtSum ms) (k - 1) m found masks) (b .below .longer e .0)
+        (subst (λ (l : List ℕ). FirstLine permitted (At l) (partialSum (r .here)) (k - 1) m found masks) (b .below .same e) a)
 
-    pub below-closed : found ≡ false → NoneWith permitted (At target) Y k m
-    below-closed f = none-with permitted (At target) Y k m p pm (Sum (AtMask m) Y) sum-comm masks (subst (λ (d : Bool). Answer permitted (At target) (Sum (AtMask m) Y) (k - 1) m d masks) f here)
+    pub below-closed : found ≡ false → NoneFirst permitted (aimOf here) Y k m
+    below-closed f = none-with permitted (aimOf here) Y k m p pm (Sum (AtMask m) Y) sum-comm masks (subst (λ (d : Bool). FirstLine permitted (aimOf here) (Sum (AtMask m) Y) (k - 1) m d masks) f above)
 
-    pub below-found : found ≡ true → k ≤ length masks → Answer permitted (At target) Y k m true (set masks (k - 1) m)
+    pub below-found : found ≡ true → k ≤ length masks → FirstLine permitted (aimOf here) Y k m true (set masks (k - 1) m)
     below-found f room =
-        put-first permitted (At target) Y k m p pm (Sum (AtMask m) Y) sum-comm masks room (subst (λ (d : Bool). Answer permitted (At target) (Sum (AtMask m) Y) (k - 1) m d masks) f here)
+        put-first permitted (aimOf here) Y k m p pm (Sum (AtMask m) Y) sum-comm masks room (subst (λ (d : Bool). FirstLine permitted (aimOf here) (Sum (AtMask m) Y) (k - 1) m d masks) f above)

@@ -21,7 +21,7 @@ use Rattle.rows.specs.Cells.{Cells, Same, Sum, At, AtOrigin, chosen}
 use Rattle.rows.proofs.Sums.{Rows16, in-x, in-y, zero-at}
 use Rattle.extents.specs.Extents.{Greatest, NoCell, row, column}
 use Rattle.search.specs.Plans.{SumsTo, Shortest}
-use Rattle.search.specs.Tree.{Completes, Answer, tries, Marked}
+use Rattle.search.specs.Tree.{Completes, FirstLine, tries, Candidates}
 use Rattle.rows.proofs.Addition.{same-sym, same-trans, sum-comm, sum-origin, sum-cells-same}
 use Rattle.rows.proofs.Chosen.{length-chosen}
 use Rattle.search.proofs.Marking.{tried-permitted, all-tried}
@@ -64,8 +64,8 @@ module _ (permitted : ℕ → Bool) (sub : (m : ℕ) → T (permitted m) → T (
   none-short A w h k e f q ns S t l = let b = counts A w h e f ns S .0 in omega arith
 
   -- the answers for each number of stages together
-  module _ (A : Cells) (marks : List ℕ) (M : Marked permitted A 512 marks) (k : ℕ) (below : NoneBelow A k)
-      (found : Bool) (masks : List ℕ) (a : Answer (tries marks) A AtOrigin k 0 found masks) where
+  module _ (A : Cells) (marks : List ℕ) (M : Candidates permitted A 512 marks) (k : ℕ) (below : NoneBelow A k)
+      (found : Bool) (masks : List ℕ) (a : FirstLine (tries marks) A AtOrigin k 0 found masks) where
     -- what sums to A completes the cell (0, 0) to A, with stages that are tried
     completes : (ns : List ℕ) → SumsTo permitted A ns → T (not (falling ns)) → Completes (tries marks) A AtOrigin 0 ns
     completes ns S t = record { stages = all-tried permitted A sub marks M ns S; rising = zero-first ns t; sum = same-trans (S .sum) (same-sym from-origin) }

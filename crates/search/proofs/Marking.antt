@@ -17,7 +17,7 @@ use Rattle.masks.proofs.Cells.{stage-below}
 use Rattle.rows.specs.Cells.{Cells, Same, Sum, Residue, At, AtMask, AtSum, CutTo}
 use Rattle.rows.proofs.Sums.{Rows16, in-x, in-y, zero-at}
 use Rattle.search.specs.Plans.{SumsTo}
-use Rattle.search.specs.Tree.{tries, Marks, Mark, Marked}
+use Rattle.search.specs.Tree.{tries, Marks, Candidate, Candidates}
 use Rattle.rows.proofs.Addition.{same-refl, same-sym, same-trans, to-cell, add-cells, sum-both, sum-comm, sum-assoc}
 
 -- a sum is the sum of one of its masks and of the others
@@ -57,28 +57,28 @@ module _ (A : List ℕ) (wA : Rows16 A) (m : ℕ) (t : List ℕ) (ht : CutTo (Re
 
 module _ (permitted : ℕ → Bool) (A : Cells) where
   -- a mask that is not permitted, or that leaves something else than A
-  pub mark-none : (m mark : ℕ) → mark ≡ 0 → (T (permitted m) → (ns : List ℕ) → SumsTo permitted A ns → In ns m → ⊥) → Mark permitted A m mark
+  pub mark-none : (m mark : ℕ) → mark ≡ 0 → (T (permitted m) → (ns : List ℕ) → SumsTo permitted A ns → In ns m → ⊥) → Candidate permitted A m mark
   mark-none m mark z f = record { tried = λ e. absurd (omega arith); passed = λ g st ns S h. f st ns S h }
 
-  pub mark-one : (m mark : ℕ) → mark ≡ 1 → T (permitted m) → Mark permitted A m mark
+  pub mark-one : (m mark : ℕ) → mark ≡ 1 → T (permitted m) → Candidate permitted A m mark
   mark-one m mark e st = record { tried = λ _. st; passed = λ g. absurd (g e) }
 
   -- ---- all masks
 
-  pub marked-none : Marked permitted A 0 (replicate 512 0)
+  pub marked-none : Candidates permitted A 0 (replicate 512 0)
   marked-none = record { room = refl; at = λ m l. absurd (omega arith); rest = λ m l. zero-at 512 m }
 
-  pub marked-more : (n : ℕ) (marks : List ℕ) (v : ℕ) → n < 512 → Marked permitted A n marks → Mark permitted A n v → Marked permitted A (n + 1) (set marks n v)
+  pub marked-more : (n : ℕ) (marks : List ℕ) (v : ℕ) → n < 512 → Candidates permitted A n marks → Candidate permitted A n v → Candidates permitted A (n + 1) (set marks n v)
   marked-more n marks v l M k = record {
     room = length-set marks n v ∙ M .room;
     at = λ m q. ⊎-elim
-        (λ e. subst (λ (j : ℕ). Mark permitted A j (getD (set marks n v) j 0)) (sym e) (subst (Mark permitted A n) (sym (getD-set-same marks n v 0 (omega (arith, M .room)))) k))
-        (λ w. subst (Mark permitted A m) (sym (getD-set-other marks n m v 0 (λ e. omega arith))) (M .at m w))
+        (λ e. subst (λ (j : ℕ). Candidate permitted A j (getD (set marks n v) j 0)) (sym e) (subst (Candidate permitted A n) (sym (getD-set-same marks n v 0 (omega (arith, M .room)))) k))
+        (λ w. subst (Candidate permitted A m) (sym (getD-set-other marks n m v 0 (λ e. omega arith))) (M .at m w))
         (eq-or-lt-of-le {n = m} {m = n} (omega arith));
     rest = λ m q. getD-set-other marks n m v 0 (λ e. omega arith) ∙ M .rest m (omega arith);
   }
 
-  module _ (sub : (m : ℕ) → T (permitted m) → T (stage m)) (marks : List ℕ) (M : Marked permitted A 512 marks) where
+  module _ (sub : (m : ℕ) → T (permitted m) → T (stage m)) (marks : List ℕ) (M : Candidates permitted A 512 marks) where
     -- what is tried is permitted
     pub tried-permitted : (m : ℕ) → T (tries marks m) → T (permitted m)
     tried-permitted m t =

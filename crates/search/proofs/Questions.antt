@@ -25,8 +25,8 @@ use Rattle.completions.specs.Completing.{Among, numberIn, Spans, Masks, Open, N
 use Rattle.completions.proofs.Loops.{among-more}
 use Rattle.completions.proofs.Nodes.{to-part, of-part}
 use Rattle.search.specs.Plans.{Shortest}
-use Rattle.search.specs.Tree.{Answer, Marked, tries}
-use Rattle.search.specs.Asking.{Drawn, Tabled, Questioned, Kept}
+use Rattle.search.specs.Tree.{FirstLine, Candidates, tries}
+use Rattle.search.specs.Asking.{Drawn, Tabled, Questioned, Underway}
 use Rattle.search.proofs.Lengths.{from-origin, counts, none-any}
 use Rattle.search.proofs.Marking.{tried-permitted, marks-of, all-tried}
 use Rattle.search.proofs.Reaches.{mask-reach}
@@ -75,7 +75,7 @@ module _ (m : ℕ) (t : T (stage m)) where
 
 -- ---- what the quick search is asked with
 
-module _ (marks cells : List ℕ) (M : Marked stage (At cells) 512 marks) where
+module _ (marks cells : List ℕ) (M : Candidates stage (At cells) 512 marks) where
   is-stage : (m : ℕ) → T (tries marks m) → T (stage m)
   is-stage = tried-permitted stage (At cells) (λ m t. t) marks M
 
@@ -111,7 +111,6 @@ module _ (marks cells : List ℕ) (M : Marked stage (At cells) 512 marks) where
       record {
         pool = record {
           marked = marks-of stage (At cells) (λ m t. t) marks M;
-          table = h .long;
           few = omega (arith, length-take n list);
           allowed = λ m a. d .only m (whole m a);
           all = λ m t. to-part list n m (omega arith) (d .all m (stage-below m (is-stage m t)) t);
@@ -131,7 +130,7 @@ module _ (marks cells need nums cand : List ℕ) (q : Questioned marks cells nee
       (λ m h. q .pool .all m (In-all (tries marks) ns t m h)) l
 
   -- so for k stages the answer is that there is none
-  pub no-answer : Answer (tries marks) (At cells) AtOrigin k 0 false (replicate 32 0)
+  pub no-answer : FirstLine (tries marks) (At cells) AtOrigin k 0 false (replicate 32 0)
   no-answer = record {
     sound = λ e. absurd (false≢true e);
     first = λ e. absurd (false≢true e);
@@ -140,12 +139,12 @@ module _ (marks cells need nums cand : List ℕ) (q : Questioned marks cells nee
   }
 
 -- what the search starts from
-pub start-kept : (marks cells need nums cand : List ℕ) → Questioned marks cells need nums cand → (k : ℕ) (path : List ℕ) → k ≤ 30 → Kept marks nums cand cells cells path 0 need k
+pub start-kept : (marks cells need nums cand : List ℕ) → Questioned marks cells need nums cand → (k : ℕ) (path : List ℕ) → k ≤ 30 → Underway marks nums cand (record { target = cells; rest = cells; path = path; len = 0; need = need }) k
 unfolding chosen
-start-kept marks cells need nums cand q k path l = record { pool = q .pool; room = omega arith; state = record { known = q .masks; way = λ s h. absurd h; state = q .state } }
+start-kept marks cells need nums cand q k path l = record { pool = q .pool; room = omega arith; state = record { known = q .masks; state = q .state } }
 
 -- where w + h or fewer do not, none do
-pub no-plan : (marks cells need nums cand : List ℕ) → Marked stage (At cells) 512 marks → Questioned marks cells need nums cand → (w h : ℕ) → Greatest column (At cells) w → Greatest row (At cells) h
+pub no-plan : (marks cells need nums cand : List ℕ) → Candidates stage (At cells) 512 marks → Questioned marks cells need nums cand → (w h : ℕ) → Greatest column (At cells) w → Greatest row (At cells) h
     → NoSum cells need nums cand (w + h) → Shortest stage (At cells) false 0 (replicate 32 0)
 no-plan marks cells need nums cand M q w h e f none = none-any stage (λ m t. t) (At cells) (λ ns S.
     no-marked marks cells need nums cand q (w + h) none ns (all-tried stage (At cells) (λ m t. t) marks M ns S) (S .sum) (counts stage (λ m t. t) (At cells) w h e f ns S .1))

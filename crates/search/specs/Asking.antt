@@ -1,16 +1,20 @@
 -- What the quick search is asked with: the marked masks as a list, and a table with the numbers of each; and what a partial sum keeps for it on the way down.
 use mathlib.Core.Path.{_≡_}
-use mathlib.Core.Bool.{Bool, true, false}
-use mathlib.Core.List.{List, _∷_}
+use mathlib.Core.Bool.{Bool, false}
+use mathlib.Core.List.{List}
 use Prim.Native.Nat.{ℕ, _+_, _≤_, _<_}
 use lib.Dec.{T}
 use lib.ListN.{length, getD}
 use Rattle.plane.specs.Lists.{all}
-use Rattle.rows.specs.Cells.{Same, Sum, At, AtMask, AtOrigin, AtSum, chosen}
+use Rattle.masks.specs.Mask.{stage}
+use Rattle.rows.specs.Cells.{Same, Sum, At, AtMask, AtOrigin, AtSum}
 use Rattle.edges.specs.Edges.{Number}
-use Rattle.completions.specs.Completing.{Among, numberIn, Masks, Open, Ready, Allowed}
-use Rattle.completions.specs.Opening.{Room}
-use Rattle.search.specs.Tree.{tries, Marks}
+use Rattle.completions.specs.declared.Here.{Here}
+use Rattle.completions.specs.declared.Child.{Child}
+use Rattle.completions.specs.Completing.{Among, numberIn, Masks, Open, aimOf, partialSum, Ready, Below, Allowed}
+use Rattle.completions.specs.Opening.{Roomy}
+use Rattle.search.specs.declared.Pool.{Pool}
+use Rattle.search.specs.Tree.{tries, Marks, Candidates}
 
 -- the marked masks below m are the first n of the list
 pub record Drawn (marks : List ℕ) (m : ℕ) (list : List ℕ) (n : ℕ) : Type 0 where
@@ -30,32 +34,34 @@ pub record Tabled (marks : List ℕ) (m : ℕ) (table : List ℕ) : Type 0 where
   pub long : length table ≡ 9216
   pub at : (s : ℕ) → s < m → T (tries marks s) → (i : ℕ) → i < 18 → Number i (AtMask s) (numberIn table i s)
 
--- the list that the quick search is asked with has just the marked masks, of which the table has the numbers
-pub record Pooled (marks nums cand : List ℕ) : Type 0 where
+-- what the search starts with for the cells of a target
+pub record Stocked (cells : List ℕ) (r : Pool) : Type 0 where
+  pub marks : Candidates stage (At cells) 512 (r .marks)
+  pub list : Drawn (r .marks) 512 (r .list) (r .n)
+  pub table : Tabled (r .marks) 512 (r .nums)
+
+-- the list that the quick search is asked with has just the marked masks
+pub record Pooled (marks cand : List ℕ) : Type 0 where
   pub marked : Marks marks
-  pub table : length nums ≡ 9216
   pub few : length cand ≤ 512
   pub allowed : Allowed (tries marks) cand
   pub all : (m : ℕ) → T (tries marks m) → Among cand (length cand) m
 
 -- what it is asked with for the cells of a target: the numbers of the cells, too
 pub record Questioned (marks cells need nums cand : List ℕ) : Type 0 where
-  pub pool : Pooled marks nums cand
+  pub pool : Pooled marks cand
   pub masks : Masks (tries marks) nums
   pub state : Open (tries marks) (numberIn nums) (At cells) AtOrigin (At cells) need
 
 -- what is kept of a partial sum with k stages to come
-pub record Kept (marks nums cand target rest path : List ℕ) (len : ℕ) (need : List ℕ) (k : ℕ) : Type 0 where
-  pub pool : Pooled marks nums cand
-  pub room : len + k ≤ 30
-  pub state : Ready (tries marks) nums target rest path len need
+pub record Underway (marks nums cand : List ℕ) (here : Here) (k : ℕ) : Type 0 where
+  pub pool : Pooled marks cand
+  pub room : here .len + k ≤ 30
+  pub state : Ready (tries marks) nums here
 
 -- the partial sum below by the stage m, with j stages after it, or that no j permitted masks lead on from there
-pub record Led (nums cand target rest path : List ℕ) (len : ℕ) (need : List ℕ) (j m : ℕ) (ok : Bool) (target′ rest′ path′ : List ℕ) (len′ : ℕ) (need′ : List ℕ) : Type 0 where
-  pub same : ok ≡ true → target′ ≡ target
-  pub longer : ok ≡ true → (chosen path′ len′ ≡ m ∷ chosen path len) × (len′ ≡ len + 1)
-  pub falls : ok ≡ true → getD need′ 16 0 + getD need′ 17 0 < getD need 16 0 + getD need 17 0
-  pub ready : ok ≡ true → (permitted : ℕ → Bool) → Ready permitted nums target rest path len need → T (permitted m) → Ready permitted nums target′ rest′ path′ len′ need′
-  pub no : ok ≡ false → Room nums cand len j → (permitted : ℕ → Bool) → Ready permitted nums target rest path len need → Allowed permitted cand
+pub record Led (nums cand : List ℕ) (here : Here) (j m : ℕ) (r : Child) : Type 0 where
+  pub below : Below nums here m r
+  pub no : r .ok ≡ false → Roomy cand (here .len) j → (permitted : ℕ → Bool) → Ready permitted nums here → Allowed permitted cand
       → ((s : ℕ) → T (permitted s) → Among cand (length cand) s) → T (permitted m)
-      → (ns : List ℕ) → length ns ≡ j → T (all permitted ns) → Same (At target) (Sum (Sum (AtSum (chosen path len)) (AtMask m)) (AtSum ns)) → ⊥
+      → (ns : List ℕ) → length ns ≡ j → T (all permitted ns) → Same (aimOf here) (Sum (Sum (partialSum here) (AtMask m)) (AtSum ns)) → ⊥
