@@ -13,7 +13,7 @@ ghost use Rattle.numbers.specs.Numbers.{Stands, erodes, PartFound};
 pub extern "C" fn musq_plan(shape: &[u32], out: &mut [u32]) -> i64
     ensures { λ r. ⌜ Stands r (λ a. Planned (now (shape .entry)) (now (out .entry)) a (now (out .exit))) ⌝ }
 {
-    numbers::signed(planner::plan(shape, out))
+    numbers::signed(plan_calls::plan(shape, out))
 }
 
 // Turning a plan back into a shape list.
@@ -21,7 +21,7 @@ pub extern "C" fn musq_plan(shape: &[u32], out: &mut [u32]) -> i64
 pub extern "C" fn musq_shape_of_plan(plan: &[u32], out: &mut [u32]) -> i64
     ensures { λ r. ⌜ Stands r (λ a. TurnedBack (now (plan .entry)) (now (out .entry)) a (now (out .exit))) ⌝ }
 {
-    numbers::signed(shaping::shape_of_plan(plan, out))
+    numbers::signed(shape_calls::shape_of_plan(plan, out))
 }
 
 // Moving a shape.
@@ -29,7 +29,7 @@ pub extern "C" fn musq_shape_of_plan(plan: &[u32], out: &mut [u32]) -> i64
 pub extern "C" fn musq_move(shape: &[u32], dx: i32, dy: i32, out: &mut [u32]) -> i64
     ensures { λ r. ⌜ Stands r (λ a. Moved (now (shape .entry)) (dx, dy) (now (out .entry)) a (now (out .exit))) ⌝ }
 {
-    numbers::signed(shaping::move_shape(shape, dx, dy, out))
+    numbers::signed(shape_calls::move_shape(shape, dx, dy, out))
 }
 
 // Joining two shapes.
@@ -37,7 +37,7 @@ pub extern "C" fn musq_move(shape: &[u32], dx: i32, dy: i32, out: &mut [u32]) ->
 pub extern "C" fn musq_join(a: &[u32], b: &[u32], out: &mut [u32]) -> i64
     ensures { λ r. ⌜ Stands r (λ s. Joined (now (a .entry)) (now (b .entry)) (now (out .entry)) s (now (out .exit))) ⌝ }
 {
-    numbers::signed(shaping::join_shapes(a, b, out))
+    numbers::signed(shape_calls::join_shapes(a, b, out))
 }
 
 // Summing two shapes.
@@ -45,7 +45,7 @@ pub extern "C" fn musq_join(a: &[u32], b: &[u32], out: &mut [u32]) -> i64
 pub extern "C" fn musq_sum(a: &[u32], b: &[u32], out: &mut [u32]) -> i64
     ensures { λ r. ⌜ Stands r (λ s. Summed (now (a .entry)) (now (b .entry)) (now (out .entry)) s (now (out .exit))) ⌝ }
 {
-    numbers::signed(shaping::sum_shapes(a, b, out))
+    numbers::signed(shape_calls::sum_shapes(a, b, out))
 }
 
 // The load of a frame.
@@ -53,7 +53,7 @@ pub extern "C" fn musq_sum(a: &[u32], b: &[u32], out: &mut [u32]) -> i64
 pub extern "C" fn musq_load(w: usize, h: usize, frame: &[u8]) -> i64
     ensures { λ r. ⌜ Stands r (λ a. LoadCounted w h (now (frame .entry)) a) ⌝ }
 {
-    numbers::signed(framing::load(w, h, frame))
+    numbers::signed(frame_calls::load(w, h, frame))
 }
 
 // Putting a frame into a grid.
@@ -61,7 +61,7 @@ pub extern "C" fn musq_load(w: usize, h: usize, frame: &[u8]) -> i64
 pub extern "C" fn musq_put(w: usize, h: usize, frame: &[u8], image: &mut [u8]) -> i64
     ensures { λ r. ⌜ Stands r (λ a. FramePut w h (now (frame .entry)) (now (image .entry)) a (now (image .exit))) ⌝ }
 {
-    numbers::signed(framing::put(w, h, frame, image))
+    numbers::signed(frame_calls::put(w, h, frame, image))
 }
 
 // A single stage, by erosion if the byte erode is anything but 0, else by dilation.
@@ -76,7 +76,7 @@ pub extern "C" fn musq_stage(
 ) -> i64
     ensures { λ r. ⌜ Stands r (λ a. Staged (erodes erode) word w h (now (from .entry)) (now (to .entry)) a (now (to .exit))) ⌝ }
 {
-    numbers::signed(framing::stage(word, erode != 0, w, h, from, to))
+    numbers::signed(frame_calls::stage(word, erode != 0, w, h, from, to))
 }
 
 // Dilation of a frame by a plan.
@@ -91,7 +91,7 @@ pub extern "C" fn musq_dilate(
 ) -> i64
     ensures { λ r. ⌜ Stands r (λ a. Cleaned Dilation (now (plan .entry)) w h (now (frame .entry)) (now (first .entry)) (now (second .entry)) a (now (first .exit)) (now (second .exit))) ⌝ }
 {
-    numbers::signed(cleaner::dilation(plan, w, h, frame, first, second))
+    numbers::signed(clean_calls::dilation(plan, w, h, frame, first, second))
 }
 
 // Erosion of a frame by a plan.
@@ -106,7 +106,7 @@ pub extern "C" fn musq_erode(
 ) -> i64
     ensures { λ r. ⌜ Stands r (λ a. Cleaned Erosion (now (plan .entry)) w h (now (frame .entry)) (now (first .entry)) (now (second .entry)) a (now (first .exit)) (now (second .exit))) ⌝ }
 {
-    numbers::signed(cleaner::erosion(plan, w, h, frame, first, second))
+    numbers::signed(clean_calls::erosion(plan, w, h, frame, first, second))
 }
 
 // Opening of a frame by a plan.
@@ -121,7 +121,7 @@ pub extern "C" fn musq_open(
 ) -> i64
     ensures { λ r. ⌜ Stands r (λ a. Cleaned Opening (now (plan .entry)) w h (now (frame .entry)) (now (first .entry)) (now (second .entry)) a (now (first .exit)) (now (second .exit))) ⌝ }
 {
-    numbers::signed(cleaner::opening(plan, w, h, frame, first, second))
+    numbers::signed(clean_calls::opening(plan, w, h, frame, first, second))
 }
 
 // Closing of a frame by a plan.
@@ -136,7 +136,7 @@ pub extern "C" fn musq_close(
 ) -> i64
     ensures { λ r. ⌜ Stands r (λ a. Cleaned Closing (now (plan .entry)) w h (now (frame .entry)) (now (first .entry)) (now (second .entry)) a (now (first .exit)) (now (second .exit))) ⌝ }
 {
-    numbers::signed(cleaner::closing(plan, w, h, frame, first, second))
+    numbers::signed(clean_calls::closing(plan, w, h, frame, first, second))
 }
 
 // The part, for the number that an operation answered: its length, and in image the number of the image that it is the start of. A refusal's

@@ -13,7 +13,7 @@ ghost use Rattle.search.specs.Asking.{Drawn, Stored, Tabled, Stocked};
 fn mark(cells: [u16; 16], m: u16) -> u8
     ensures { λ r. ⌜ Candidate isStage (At cells) m r ⌝ }
 {
-    if !stages::is_stage(m as u32) {
+    if !stage_steps::is_stage(m as u32) {
         return 0;
     }
     let t = mask_steps::shrunk(cells, m);

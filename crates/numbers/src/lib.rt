@@ -42,6 +42,6 @@ pub fn part_of<'a>(
     }
     let n = stages as usize;
     *image = image_of(n);
-    let found = parts::part(n, w, h, first, second);
+    let found = part_calls::part(n, w, h, first, second);
     found.len() as i64
 }

@@ -16,8 +16,8 @@ use Rattle.words.specs.Word.{placeX, placeY, stageMask}
 use Rattle.masks.specs.Chain.{PlanOf}
 use Rattle.masks.specs.Mask.{stage}
 use Rattle.masks.proofs.Bounds.{along, total, plan-extent, forced}
-use Rattle.stages.specs.Reach.{reach}
-use Rattle.stages.proofs.Stages.{reach-is}
+use Rattle.stage_steps.specs.Reach.{reach}
+use Rattle.stage_steps.proofs.Stages.{reach-is}
 use Rattle.shapes.specs.Plan.{planMasks, planOffset, planPoints, wrongMasks}
 use Rattle.shapes.specs.Shape.{outOfRange}
 use Rattle.shapes.proofs.Range.{range-is, biased-offside}

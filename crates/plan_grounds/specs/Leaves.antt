@@ -4,7 +4,7 @@ use mathlib.Core.List.{List, [], _∷_}
 use Prim.Native.Nat.{ℕ, _+_}
 use lib.Dec.{ltb}
 use Rattle.words.specs.Word.{stageMask}
-use Rattle.stages.specs.Reach.{reach}
+use Rattle.stage_steps.specs.Reach.{reach}
 
 -- the mask of a stage word is below that of the word before
 abbrev pub falls : ℕ → ℕ → Bool

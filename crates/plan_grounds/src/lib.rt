@@ -1,6 +1,6 @@
 // What refuses a plan list, head, place and then the stages: the first of grounds 1 to 3 and 5 to 8 that holds. No point is built: ground 8 is tried by
 // the stages' extents.
-use grounds::lists;
+use shape_grounds::lists;
 use words::Answer;
 use words::Ground;
 ghost use mathlib.Core.Path.{_≡_};
@@ -69,7 +69,7 @@ fn some_no_stage(ws: &[u32]) -> bool
 {
     let mut i: usize = 2;
     while i < ws.len() {
-        if !stages::is_stage(ws[i] % 512) {
+        if !stage_steps::is_stage(ws[i] % 512) {
             return true;
         }
         i += 1;
@@ -109,7 +109,7 @@ fn extent(ws: &[u32], down: bool) -> u32
     let mut sum: u32 = 0;
     let mut i: usize = 2;
     while i < ws.len() {
-        sum += stages::reach(ws[i] % 512, down);
+        sum += stage_steps::reach(ws[i] % 512, down);
         i += 1;
     }
     sum

@@ -9,8 +9,8 @@ use lib.Seq.{getD-set-same, getD-set-other}
 use borrow.Rule.Slice.PartMut.{midOf, putMid, mid-len}
 use Rattle.plane.proofs.Tests.{lt-or-le}
 use Rattle.rows.specs.Cells.{bit}
-use Rattle.runs.specs.Runs.{Ranged}
-use Rattle.runs.proofs.Ranges.{ranged-part}
+use Rattle.ranges.specs.Ranges.{Ranged}
+use Rattle.ranges.proofs.Ranges.{ranged-part}
 use Rattle.planes.specs.Bytes.{Bitted}
 
 -- before the first store

@@ -12,7 +12,7 @@ use Rattle.plane.specs.Point.{Point, _+ᵖ_, negᵖ}
 use Rattle.plane.proofs.Tests.{T-and, lt-or-le}
 use Rattle.masks.specs.Mask.{maskCells}
 use Rattle.grids.specs.Image.{view, cells, valueAt}
-use Rattle.placing.specs.Placing.{cutOut}
+use Rattle.cuts.specs.Cuts.{cutOut}
 use Rattle.planes.specs.Planes.{byteRows, planeSize, seen, Shows, packFits, lowBits, afterStage, stageFits, heldAt, planeCells}
 
 -- ---- whether a plane shows a picture, by computing

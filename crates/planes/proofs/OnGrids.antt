@@ -20,9 +20,9 @@ use Rattle.grids.specs.Image.{valueAt, view, cells}
 use Rattle.grids.specs.Frame.{highest, badCell, gridSize}
 use Rattle.grids.specs.Grid.{grid, once}
 use Rattle.grids.proofs.Pictures.{getD-cells, length-cells}
-use Rattle.runs.proofs.FlatRows.{flat-lt}
-use Rattle.runs.proofs.Values.{value-in, value-right, value-under, value-left, value-above}
-use Rattle.placing.specs.Placing.{cutOut}
+use Rattle.ranges.proofs.FlatRows.{flat-lt}
+use Rattle.ranges.proofs.Values.{value-in, value-right, value-under, value-left, value-above}
+use Rattle.cuts.specs.Cuts.{cutOut}
 use Rattle.planes.specs.Planes.{byteRows, planeSize, seen, Shows, Kept, lowBits, packFits, afterStage, stageFits, heldAt, planeCells, unpackFits}
 
 -- cells that no ground refuses are packed whole

@@ -4,7 +4,7 @@ use mathlib.Core.Bool.{true}
 use Prim.Native.Nat.{ℕ, _+_, _*_, _≤_}
 use native.Mathlib.Nat.{mul-le-mul-right}
 use native.Mathlib.Omega.{arith}
-use Rattle.runs.proofs.Sizing.{four, holds}
+use Rattle.ranges.proofs.Sizing.{four, holds}
 use Rattle.planes.specs.Planes.{byteRows, planeSides}
 
 pub sides-say : (v C R : ℕ) → planeSides v C R ≡ true → (1 ≤ R) × (C ≤ 65535) × (R ≤ 65535) × (v ≤ 1)

@@ -14,7 +14,7 @@ use Rattle.masks.specs.Mask.{maskPoints}
 use Rattle.grids.specs.Image.{valueAt, view, cells}
 use Rattle.grids.specs.Frame.{over}
 use Rattle.grids.proofs.Pictures.{getD-cells, length-cells}
-use Rattle.runs.proofs.Values.{value-in, value-right, value-under, value-left, value-above}
+use Rattle.ranges.proofs.Values.{value-in, value-right, value-under, value-left, value-above}
 use Rattle.planes.specs.Planes.{afterStage}
 
 -- outside C columns and R rows a picture of cells has the value outside

@@ -13,8 +13,8 @@ use Rattle.masks.specs.Mask.{maskPoints}
 use Rattle.grids.specs.Image.{view, cells}
 use Rattle.grids.specs.Frame.{over}
 use Rattle.rows.specs.Cells.{bit}
-use Rattle.runs.specs.Runs.{Fitted, Written}
-use Rattle.placing.specs.Placing.{cutOut, sidesFit}
+use Rattle.ranges.specs.Ranges.{Fitted, Written}
+use Rattle.cuts.specs.Cuts.{cutOut, sidesFit}
 
 -- rows of bytes that R rows of cells take
 abbrev pub byteRows : ℕ → ℕ

@@ -16,7 +16,7 @@ use Rattle.masks.specs.Mask.{stage}
 use Rattle.masks.proofs.Bounds.{total}
 use Rattle.masks.proofs.Order.{not-before-tied}
 use Rattle.masks.proofs.Reduce.{in-order}
-use Rattle.stages.specs.Reach.{reach}
+use Rattle.stage_steps.specs.Reach.{reach}
 use Rattle.rows.specs.Cells.{Cells, Same, Sum, At, AtOrigin, chosen}
 use Rattle.rows.proofs.Sums.{Rows16, in-x, in-y, zero-at}
 use Rattle.extents.specs.Extents.{Greatest, NoCell, row, column}

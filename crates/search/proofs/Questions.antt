@@ -10,8 +10,8 @@ use Rattle.plane.specs.Lists.{In, all}
 use Rattle.plane.proofs.Member.{In-all}
 use Rattle.masks.specs.Mask.{maskCells, stage}
 use Rattle.masks.proofs.Cells.{Low, normal-low, stage-normal, stage-below}
-use Rattle.stages.specs.Reach.{reach}
-use Rattle.stages.proofs.Stages.{reach-some}
+use Rattle.stage_steps.specs.Reach.{reach}
+use Rattle.stage_steps.proofs.Stages.{reach-some}
 use Rattle.rows.proofs.Bridge.{mask-cells}
 use Rattle.rows.specs.Cells.{Same, At, AtMask, AtOrigin, AtSum, chosen}
 use Rattle.rows.proofs.Addition.{same-sym, same-trans, to-cell}

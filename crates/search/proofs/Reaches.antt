@@ -11,8 +11,8 @@ use Rattle.plane.specs.Lists.{all}
 use Rattle.plane.proofs.Tests.{T-and}
 use Rattle.masks.specs.Mask.{stage}
 use Rattle.masks.proofs.Bounds.{total}
-use Rattle.stages.specs.Reach.{reach}
-use Rattle.stages.proofs.Stages.{numberOf, reach-all, reach-cell, reach-some, reach-small}
+use Rattle.stage_steps.specs.Reach.{reach}
+use Rattle.stage_steps.proofs.Stages.{numberOf, reach-all, reach-cell, reach-some, reach-small}
 use Rattle.rows.specs.Cells.{Cells, Same, Sum, AtMask, AtSum}
 use Rattle.rows.proofs.Bridge.{mask-cells}
 use Rattle.extents.specs.Extents.{Greatest}

@@ -1,5 +1,5 @@
 // The program `shapeplan`: reads the words of a shape list from standard input, a line each, and prints its plan, or the refusal, or `unreadable`.
-// What it prints for what it reads is proved of printer::page; here is only the reading of the input to its end and the writing of the page.
+// What it prints for what it reads is proved of print_calls::page; here is only the reading of the input to its end and the writing of the page.
 ghost use Prim.Native.Nat.{_≤_};
 use libc::STDIN_FILENO;
 use libc::STDOUT_FILENO;
@@ -66,5 +66,5 @@ fn main() {
         write(page_steps::unreadable_page());
         return;
     }
-    write(printer::page(input.reading));
+    write(print_calls::page(input.reading));
 }

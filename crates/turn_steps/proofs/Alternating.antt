@@ -15,7 +15,7 @@ use Rattle.grids.specs.Frame.{free, gridSize}
 use Rattle.grids.specs.Grid.{grid, once}
 use Rattle.planes.specs.Planes.{Kept, Shows, stageFits, PlaneTaken, unpackFits}
 use Rattle.planes.proofs.OnGrids.{plane-fits, kept-drop, after-once, grid-stage, grid-unpack}
-use Rattle.frames.proofs.Sides.{sides}
+use Rattle.frame_grounds.proofs.Sides.{sides}
 use Rattle.plane.specs.Point.{Point}
 use Rattle.cleaning.specs.Operation.{through}
 use Rattle.cleaning.specs.Cleaning.{resultImage}

@@ -15,8 +15,8 @@ use Rattle.shapes.specs.Plan.{placed, planMasks, planOffset}
 use Rattle.grids.specs.Frame.{free}
 use Rattle.grids.specs.Grid.{grid, put}
 use Rattle.grids.specs.Image.{cells}
-use Rattle.placing.specs.Placing.{cutOut}
-use Rattle.runs.specs.Runs.{over}
+use Rattle.cuts.specs.Cuts.{cutOut}
+use Rattle.ranges.specs.Ranges.{over}
 use Rattle.planes.specs.Planes.{planeCells}
 use Rattle.cleaning.specs.declared.Operation.{Operation}
 use Rattle.cleaning.specs.declared.Operation.the-variants.{Dilation, Erosion, Opening, Closing}

@@ -5,8 +5,8 @@ use mathlib.Core.List.{List}
 use Prim.Native.Nat.{ℕ, _+_, _-_, _*_}
 use Rattle.words.specs.Word.{placeX, placeY}
 use Rattle.grids.specs.Frame.{free}
-use Rattle.runs.specs.Runs.{over}
-use Rattle.placing.specs.Placing.{cutOut}
+use Rattle.ranges.specs.Ranges.{over}
+use Rattle.cuts.specs.Cuts.{cutOut}
 use Rattle.planes.specs.Planes.{planeCells}
 use Rattle.cleaning.specs.declared.Operation.{Operation}
 use Rattle.cleaning.specs.declared.Operation.the-variants.{Dilation, Erosion, Opening, Closing}

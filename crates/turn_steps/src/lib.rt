@@ -26,7 +26,7 @@ fn runnable(plan: &[u32], w: usize, h: usize, first: &[u8], second: &[u8]) -> bo
     if 30 < place / 256 % 256 {
         return false;
     }
-    if frames::bad_size(w, h) {
+    if frame_grounds::bad_size(w, h) {
         return false;
     }
     let size = (w + 15) * (h + 15);

@@ -36,8 +36,8 @@ pub(crate) fn cut(
     let a = ahead(op, place % 256);
     let b = ahead(op, place / 256 % 256);
     if t % 2 == 0 {
-        plane_unpack::unpack(first, second, w, h, w + 15, h + 15, a, b, 0);
+        plane_unpack_steps::unpack(first, second, w, h, w + 15, h + 15, a, b, 0);
         return;
     }
-    plane_unpack::unpack(second, first, w, h, w + 15, h + 15, a, b, 0);
+    plane_unpack_steps::unpack(second, first, w, h, w + 15, h + 15, a, b, 0);
 }

@@ -9,10 +9,10 @@ fn turn(mask: u16, erode: bool, t: usize, w: usize, h: usize, first: &mut [u8], 
     ensures { λ _. ⌜ Turned erode mask w h t (now (first .entry)) (now (second .entry)) (now (first .exit)) (now (second .exit)) ⌝ }
 {
     if t % 2 == 0 {
-        plane_stage::stage(first, second, w + 15, h + 15, mask, 0, erode);
+        plane_stage_steps::stage(first, second, w + 15, h + 15, mask, 0, erode);
         return;
     }
-    plane_stage::stage(second, first, w + 15, h + 15, mask, 0, erode);
+    plane_stage_steps::stage(second, first, w + 15, h + 15, mask, 0, erode);
 }
 
 // All stages of a plan, in order, after t others. Returns how many have then been run.

@@ -6,7 +6,7 @@ use Prim.Native.Nat.{_+_, _*_, _-_, _≤_}
 use lib.ListN.{length, getD, drop}
 use Rattle.words.specs.Word.{stageMask}
 use Rattle.plan_grounds.specs.Leaves.{extentOf}
-use Rattle.stages.proofs.Stages.{reach-small}
+use Rattle.stage_steps.proofs.Stages.{reach-small}
 use Rattle.plan_grounds.proofs.Stages.{extent-one, extent-none}
 use Rattle.plan_grounds.proofs.extent.Statement.{statement}
 use Rattle.plan_grounds.proofs.extent.Tie as tie

@@ -1,7 +1,7 @@
 -- Each test in turn: where one fails, so does their conjunction, and the last decides.
 use native.Mathlib.Omega.{arith}
 use borrow.Author.Tests.{le-leb, lt-leb}
-use Rattle.runs.proofs.Sizing.{fourth}
+use Rattle.ranges.proofs.Sizing.{fourth}
 use Rattle.planes.proofs.sides.Statement.{statement}
 use Rattle.planes.proofs.sides.Tie as tie
 

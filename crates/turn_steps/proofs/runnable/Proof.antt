@@ -5,7 +5,7 @@ use mathlib.Core.Path.{_≡_, refl, sym, _∙_, subst}
 use mathlib.Core.Bool.{true, false}
 use Prim.Native.Nat.{_+_, _*_, _≤_}
 use lib.Dec.{T}
-use Rattle.frames.proofs.Sides.{sides, small-grid}
+use Rattle.frame_grounds.proofs.Sides.{sides, small-grid}
 use Rattle.grids.specs.Frame.{badSize}
 use Rattle.turn_steps.proofs.runnable.Statement.{statement}
 use Rattle.turn_steps.proofs.runnable.Tie as tie

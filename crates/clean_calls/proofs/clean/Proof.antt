@@ -1,0 +1,124 @@
+-- A refusal is the answer, and nothing was written; else the frame is packed, the stages are run, and the result is cut.
+use mathlib.Core.Path.{_≡_, refl}
+use Prim.Native.Nat.{_+_}
+use lib.Dec.{T}
+use lib.ListN.{length}
+use Rattle.words.specs.Ground.{firstOf}
+use Rattle.words.proofs.Tested.{no-refusal, refused-call}
+use Rattle.cleaning.specs.Cleaning.{operationTests}
+use Rattle.frame_grounds.proofs.Sides.{sides}
+use Rattle.grids.specs.Frame.{free}
+use Rattle.planes.specs.Planes.{packFits}
+use Rattle.turn_steps.specs.Running.{Runnable}
+use Rattle.clean_calls.proofs.Accepted.{few-stages}
+use Rattle.clean_calls.proofs.Working.{plan-accepted, sides-pass, packs, runs, ran}
+use native.Mathlib.Omega.{arith}
+use borrow.Author.Needs.{needs}
+use Rattle.clean_calls.proofs.clean.Statement.{statement}
+use Rattle.clean_calls.proofs.clean.Tie as tie
+
+abbrev start : tie.After-enum-told → tie.Start
+start c = c .before .before .before .before .before .before .before .before .before
+
+-- no ground holds, once the grounds are tried
+passed : (c : tie.After-enum-told) → let a = start c .args in firstOf (operationTests (a .plan .now) (a .w) (a .h) (a .frame .now) (a .first .now) (a .second .now)) ≡ 0
+passed c = let t = c .before .before .refused in no-refusal (t .result) _ (c .before .match .keys2) (t .ensures)
+
+-- so the frame goes into the plane
+fits : (c : tie.After-enum-told) → let a = start c .args in T (packFits free (a .w) (a .h) (a .w + 15) (a .h + 15) (length (a .frame .now)) (length (a .first .now)))
+fits c =
+    let a = start c .args in
+    packs (a .plan .now) (a .w) (a .h) (a .frame .now) (a .first .now) (a .second .now) (passed c)
+
+-- behind the run: the place where no ground held, and the frame in the plane
+abbrev told : tie.After-run → tie.After-enum-told
+told c = c .before .before .before .before .before .before .before
+
+refused-requires : tie.Need-refused-requires
+refused-requires c κs = search needs
+
+enum-known-tested : tie.Need-enum-known-tested
+enum-known-tested c = search needs
+
+same-length : tie.Need-same-length
+same-length c = search needs
+
+same-length-2 : tie.Need-same-length-2
+same-length-2 c = search needs
+
+returns : tie.Need-returns
+returns c =
+    let t = c .before .before .before in
+    let a = t .before .before .before .before .before .before .before .args in
+    refused-call (operationTests (a .plan .now) (a .w) (a .h) (a .frame .now) (a .first .now) (a .second .now)) (t .refused .result) _ (t .refused .ensures) (c .before .tested .given .1) refl (refl, refl)
+
+enum-told : tie.Need-enum-told
+enum-told c = search needs
+
+add-pack : tie.Need-add-pack
+add-pack c =
+    let k = c .before in
+    let a = start k .args in
+    let s = sides (a .w) (a .h) (sides-pass (a .plan .now) (a .w) (a .h) (a .frame .now) (a .first .now) (a .second .now) (passed k)) in
+    record { fits = omega arith }
+
+add-pack-2 : tie.Need-add-pack-2
+add-pack-2 c =
+    let k = c .before in
+    let a = start k .args in
+    let s = sides (a .w) (a .h) (sides-pass (a .plan .now) (a .w) (a .h) (a .frame .now) (a .first .now) (a .second .now) (passed k)) in
+    record { fits = omega arith }
+
+pack-requires : tie.Need-pack-requires
+pack-requires c κs = search needs
+
+run-requires : tie.Need-run-requires
+run-requires c κs = search needs
+
+-- the frame is packed, so the stages can be run
+able : (c : tie.After-run) → let a = start (told c) .args in Runnable (a .plan .now) (a .w) (a .h) (c .before .before .before .before .before .pack .last .1 .0) (a .second .now)
+able c =
+    let k = told c in
+    let a = start k .args in
+    runs (a .plan .now) (a .w) (a .h) (a .frame .now) (a .first .now) (a .second .now) (passed k) (c .before .before .before .before .before .pack .ensures .done (fits k))
+
+cast-run : tie.Need-cast-run
+cast-run c =
+    let at = c .before .before .before .before in
+    let k = told at in
+    let a = start k .args in
+    let l = few-stages (a .plan .now) (plan-accepted (a .plan .now) (a .w) (a .h) (a .frame .now) (a .first .now) (a .second .now) (passed k)) (a .op) (at .run .ensures .through (able at) .ended .count) in
+    record { fits = omega arith }
+
+same-length-3 : tie.Need-same-length-3
+same-length-3 c = search needs
+
+same-length-4 : tie.Need-same-length-4
+same-length-4 c = search needs
+
+returns-2 : tie.Need-returns-2
+returns-2 c =
+    let at = c .before .before .before .before in
+    let k = told at in
+    let a = start k .args in
+    let t = at .run .ensures .through (able at) in
+    ran (a .plan .now) (a .w) (a .h) (a .frame .now) (a .first .now) (a .second .now) (passed k) (at .before .before .before .before .before .pack .ensures .done (fits k)) (t .ended) (t .away) _ refl
+
+pub clean-spec : {M : Type 1} → statement M
+clean-spec =
+    tie.close
+    (tie.spec
+    refused-requires
+    enum-known-tested
+    same-length
+    same-length-2
+    returns
+    enum-told
+    add-pack
+    add-pack-2
+    pack-requires
+    run-requires
+    cast-run
+    same-length-3
+    same-length-4
+    returns-2)

@@ -1,0 +1,97 @@
+// The four operations on a plan list, a frame and two work images: dilation, erosion, opening and closing. Each tries all grounds before it writes a byte, packs
+// the frame into a plane in the first image, and runs the stages and cuts the result by `turn_steps`.
+use cleaning::Operation;
+use words::Answer;
+ghost use mathlib.Core.Path.{_≡_};
+ghost use Rattle.words.specs.Ground.{stated, refusal, firstOf};
+ghost use Rattle.cleaning.specs.declared.Operation.the-variants.{Dilation, Erosion, Opening, Closing};
+ghost use Rattle.cleaning.specs.Cleaning.{operationTests, Cleaned};
+
+// What refuses an operation: the first of grounds 1 to 3, 5 to 8 and 11 to 14 that holds; Done(0) where none does.
+fn refused(plan: &[u32], w: usize, h: usize, frame: &[u8], first: &[u8], second: &[u8]) -> Answer
+    ensures { λ r. ⌜ stated r ≡ refusal (firstOf (operationTests (now (plan .entry)) w h (now (frame .entry)) (now (first .entry)) (now (second .entry)))) ⌝ }
+{
+    let tested = plan_grounds::plan_refusal(plan);
+    if let Answer::Refused(ground) = tested {
+        return Answer::Refused(ground);
+    }
+    frame_grounds::work_refusal(w, h, frame, first, second)
+}
+
+// An operation. Returns the number of stages run.
+fn clean(
+    op: Operation,
+    plan: &[u32],
+    w: usize,
+    h: usize,
+    frame: &[u8],
+    first: &mut [u8],
+    second: &mut [u8],
+) -> Answer
+    ensures { λ r. ⌜ Cleaned op (now (plan .entry)) w h (now (frame .entry)) (now (first .entry)) (now (second .entry)) r (now (first .exit)) (now (second .exit)) ⌝ }
+{
+    let tested = refused(plan, w, h, frame, first, second);
+    if let Answer::Refused(ground) = tested {
+        return Answer::Refused(ground);
+    }
+    plane_pack_steps::pack(frame, first, w, h, w + 15, h + 15, 0);
+    let n = turn_steps::run(op, plan, w, h, first, second);
+    let run = n as u32;
+    Answer::Done(run)
+}
+
+// Dilation by the plan's points.
+pub fn dilation(
+    plan: &[u32],
+    w: usize,
+    h: usize,
+    frame: &[u8],
+    first: &mut [u8],
+    second: &mut [u8],
+) -> Answer
+    ensures { λ r. ⌜ Cleaned Dilation (now (plan .entry)) w h (now (frame .entry)) (now (first .entry)) (now (second .entry)) r (now (first .exit)) (now (second .exit)) ⌝ }
+{
+    clean(Operation::Dilation, plan, w, h, frame, first, second)
+}
+
+// Erosion by the plan's points.
+pub fn erosion(
+    plan: &[u32],
+    w: usize,
+    h: usize,
+    frame: &[u8],
+    first: &mut [u8],
+    second: &mut [u8],
+) -> Answer
+    ensures { λ r. ⌜ Cleaned Erosion (now (plan .entry)) w h (now (frame .entry)) (now (first .entry)) (now (second .entry)) r (now (first .exit)) (now (second .exit)) ⌝ }
+{
+    clean(Operation::Erosion, plan, w, h, frame, first, second)
+}
+
+// Opening: erosion, then dilation.
+pub fn opening(
+    plan: &[u32],
+    w: usize,
+    h: usize,
+    frame: &[u8],
+    first: &mut [u8],
+    second: &mut [u8],
+) -> Answer
+    ensures { λ r. ⌜ Cleaned Opening (now (plan .entry)) w h (now (frame .entry)) (now (first .entry)) (now (second .entry)) r (now (first .exit)) (now (second .exit)) ⌝ }
+{
+    clean(Operation::Opening, plan, w, h, frame, first, second)
+}
+
+// Closing: dilation, then erosion.
+pub fn closing(
+    plan: &[u32],
+    w: usize,
+    h: usize,
+    frame: &[u8],
+    first: &mut [u8],
+    second: &mut [u8],
+) -> Answer
+    ensures { λ r. ⌜ Cleaned Closing (now (plan .entry)) w h (now (frame .entry)) (now (first .entry)) (now (second .entry)) r (now (first .exit)) (now (second .exit)) ⌝ }
+{
+    clean(Operation::Closing, plan, w, h, frame, first, second)
+}

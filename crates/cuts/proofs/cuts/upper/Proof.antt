@@ -1,0 +1,86 @@
+-- The rows passed are cut; the measure is what is left of the rows.
+use borrow.Author.Needs.{needs}
+use native.Mathlib.Omega.{arith}
+use mathlib.Core.Path.{_≡_}
+use Prim.Native.Nat.{_+_, _-_, _*_, _≤_}
+use native.Mathlib.Nat.{add-mul, mul-comm}
+use Rattle.ranges.specs.Ranges.{Laid}
+use Rattle.ranges.proofs.Ranges.{ranged-part}
+use Rattle.ranges.proofs.FlatRows.{rows-apart}
+use Rattle.cuts.specs.Cuts.{seen}
+use Rattle.cuts.proofs.CutRows.{laid-none, laid-more}
+use Rattle.cuts.proofs.cuts.upper.Statement.{statement}
+use Rattle.cuts.proofs.cuts.upper.Tie as tie
+
+abbrev Inv-loop : tie.InvT-loop
+Inv-loop src dst₀ w h v u a b outside p₀ y₀ dst p y = (y ≤ h) × (p ≡ y * w) × Laid (λ x z. seen outside v u src (x + a) (z + b)) w y dst₀ dst
+
+abbrev μ-loop : tie.MeasureT-loop
+μ-loop src dst₀ w h v u a b outside p₀ y₀ dst p y = h - y
+
+loop-holds : tie.Need-loop-holds Inv-loop μ-loop
+loop-holds c = (omega arith, omega arith, laid-none _)
+
+add-across : tie.Need-add-across Inv-loop μ-loop
+add-across c = let a = c .before .before .before .before .args in let l = c .before .loop in omega (arith, rows-apart (a .w) (l .y) (a .h) (omega arith), mul-comm (a .w) (a .h), l .inv .2 .len)
+
+sub-across : tie.Need-sub-across Inv-loop μ-loop
+sub-across c = search needs
+
+part-across-start : tie.Need-part-across-start Inv-loop μ-loop
+part-across-start c = search needs
+
+part-across-end : tie.Need-part-across-end Inv-loop μ-loop
+part-across-end c = let a = c .before .before .before .before .args in let l = c .before .loop in omega (arith, rows-apart (a .w) (l .y) (a .h) (omega arith), mul-comm (a .w) (a .h), l .inv .2 .len)
+
+add-across-2 : tie.Need-add-across-2 Inv-loop μ-loop
+add-across-2 c = search needs
+
+across-requires : tie.Need-across-requires Inv-loop μ-loop
+across-requires c κs = search needs
+
+add-p : tie.Need-add-p Inv-loop μ-loop
+add-p c = let a = c .before .before .before .before .before .before .before .before .args in let l = c .before .before .before .before .before .loop in omega (arith, rows-apart (a .w) (l .y) (a .h) (omega arith), mul-comm (a .w) (a .h), l .inv .2 .len)
+
+add-y : tie.Need-add-y Inv-loop μ-loop
+add-y c = search needs
+
+loop-less : tie.Need-loop-less Inv-loop μ-loop
+loop-less c = search needs
+
+loop-again : tie.Need-loop-again Inv-loop μ-loop
+loop-again c =
+    let a = c .before .before .before .before .before .before .before .before .args in
+    let l = c .before .before .before .before .before .loop in
+    let room = rows-apart (a .w) (l .y) (a .h) (omega arith) in
+    let r = ranged-part {a = l .p} {e = l .p + a .w} {xs = l .dst} (omega arith) (omega (arith, room, mul-comm (a .w) (a .h), l .inv .2 .len)) (c .before .before .across .ensures) in
+    (omega arith, omega (arith, add-mul (l .y) 1 (a .w)), laid-more (l .inv .1) (l .inv .2) r)
+
+same-length : tie.Need-same-length Inv-loop μ-loop
+same-length c = search needs
+
+returns : tie.Need-returns Inv-loop μ-loop
+returns c =
+    let a = c .before .before .before .before .args in
+    let e : c .before .loop .y ≡ a .h = omega arith in
+    rw e at (c .before .loop .inv .2)
+
+pub upper-spec : {M : Type 1} → statement M
+upper-spec =
+    tie.close
+    (tie.spec
+    Inv-loop
+    μ-loop
+    loop-holds
+    add-across
+    sub-across
+    part-across-start
+    part-across-end
+    add-across-2
+    across-requires
+    add-p
+    add-y
+    loop-less
+    loop-again
+    same-length
+    returns)

@@ -1,0 +1,122 @@
+// Columns and rows cut out of a source, row by row; a row is at most three runs. Cell x of a row is the source's x + a − 15, and so for rows with b.
+use super::sizes;
+ghost use mathlib.Core.Path.{_≡_};
+ghost use Prim.Native.Nat.{_+_, _*_, _≤_};
+ghost use lib.ListN.{length, getD};
+ghost use Rattle.ranges.specs.Ranges.{over, Laid, Ranged};
+ghost use Rattle.cuts.specs.Cuts.{cutOut, Cut, Edge, shifted, seen};
+
+// How many of the first w cells stand before n when a is added to their numbers.
+pub fn edge(w: usize, a: usize, n: usize) -> usize
+    ensures { λ r. ⌜ Edge w a n r ⌝ }
+{
+    if n <= a {
+        return 0;
+    }
+    if w < n - a {
+        return w;
+    }
+    n - a
+}
+
+// One row from a row of the source: the cells left of that row, those of it, and those right of it.
+fn line(row: &[u8], d: &mut [u8], a: usize, outside: u8)
+    requires { ⌜ (length (now row) ≤ 65535) × (a ≤ 65535) ⌝ }
+    ensures { λ _. ⌜ Ranged 0 0 (length (now (d .entry))) (λ x. shifted outside (length (now (row .entry))) (λ i. getD (now (row .entry)) i 0) (x + a)) (now (d .entry)) (now (d .exit)) ⌝ }
+{
+    let n = d.len();
+    let m = row.len();
+    let p = edge(n, a, 15);
+    let e = edge(n, a, m + 15);
+    if e <= p {
+        ranges::fill(d, outside);
+        return;
+    }
+    ranges::fill(&mut d[0..p], outside);
+    ranges::copy(&mut d[p..e], &row[p + a - 15..m]);
+    ranges::fill(&mut d[e..n], outside);
+}
+
+// One row from the source's row t − 15, or from above or below the source.
+fn across(src: &[u8], d: &mut [u8], v: usize, u: usize, a: usize, t: usize, outside: u8)
+    requires { ⌜ (v * u ≤ length (now src)) × (v ≤ 65535) × (u ≤ 65535) × (a ≤ 65535) ⌝ }
+    ensures { λ _. ⌜ Ranged 0 0 (length (now (d .entry))) (λ x. seen outside v u (now (src .entry)) (x + a) t) (now (d .entry)) (now (d .exit)) ⌝ }
+{
+    if t < 15 {
+        ranges::fill(d, outside);
+        return;
+    }
+    if u <= t - 15 {
+        ranges::fill(d, outside);
+        return;
+    }
+    let q = (t - 15) * v;
+    line(&src[q..q + v], d, a, outside);
+}
+
+// The first h rows, the first first.
+fn upper(
+    src: &[u8],
+    dst: &mut [u8],
+    w: usize,
+    h: usize,
+    v: usize,
+    u: usize,
+    a: usize,
+    b: usize,
+    outside: u8,
+)
+    requires { ⌜ (v * u ≤ length (now src)) × (w * h ≤ length (now dst)) × (w ≤ 65535) × (h ≤ 65535) × (v ≤ 65535) × (u ≤ 65535) × (a ≤ 65535) × (b ≤ 65535) ⌝ }
+    ensures { λ _. ⌜ Laid (λ x y. seen outside v u (now (src .entry)) (x + a) (y + b)) w h (now (dst .entry)) (now (dst .exit)) ⌝ }
+{
+    let mut p: usize = 0;
+    let mut y: usize = 0;
+    while y < h {
+        across(src, &mut dst[p..p + w], v, u, a, y + b, outside);
+        p += w;
+        y += 1;
+    }
+}
+
+// All rows: one by one as far as the source goes, and those below it in one run. A loop over all of them would look, to the compiler, as if it read past the
+// source, and where the image stands there, cells would be copied one at a time.
+fn down(
+    src: &[u8],
+    dst: &mut [u8],
+    w: usize,
+    h: usize,
+    v: usize,
+    u: usize,
+    a: usize,
+    b: usize,
+    outside: u8,
+)
+    requires { ⌜ (v * u ≤ length (now src)) × (w * h ≤ length (now dst)) × (w ≤ 65535) × (h ≤ 65535) × (v ≤ 65535) × (u ≤ 65535) × (a ≤ 65535) × (b ≤ 65535) ⌝ }
+    ensures { λ _. ⌜ now (dst .exit) ≡ over (w * h) (cutOut outside w h v u a b (now (src .entry))) (now (dst .entry)) ⌝ }
+{
+    let n = edge(h, b, u + 15);
+    upper(src, dst, w, n, v, u, a, b, outside);
+    ranges::fill(&mut dst[n * w..h * w], outside);
+}
+
+// Cuts w columns and h rows out of the v columns and u rows in src, into dst: cell (x, y) becomes the source's (x + a − 15, y + b − 15), and outside where
+// the source has no such cell. False, with nothing written, where sizes do not fit.
+pub fn cut(
+    src: &[u8],
+    dst: &mut [u8],
+    w: usize,
+    h: usize,
+    v: usize,
+    u: usize,
+    a: usize,
+    b: usize,
+    outside: u8,
+) -> bool
+    ensures { λ r. ⌜ Cut outside w h v u a b (now (src .entry)) (now (dst .entry)) r (now (dst .exit)) ⌝ }
+{
+    if !sizes::cut_fits(w, h, v, u, a, b, src.len(), dst.len()) {
+        return false;
+    }
+    down(src, dst, w, h, v, u, a, b, outside);
+    true
+}

@@ -1,0 +1,47 @@
+// Whether columns, rows and images fit one another, so that no product passes 32 bits and no index passes an image.
+ghost use mathlib.Core.Path.{_≡_};
+ghost use Rattle.cuts.specs.Cuts.{sidesFit, cutFits};
+
+// Whether columns, rows and distances are ones that a cut is made for.
+pub fn sides_fit(w: usize, h: usize, v: usize, u: usize, a: usize, b: usize) -> bool
+    ensures { λ r. ⌜ r ≡ sidesFit w h v u a b ⌝ }
+{
+    if 65535 < w {
+        return false;
+    }
+    if 65535 < h {
+        return false;
+    }
+    if 65535 < v {
+        return false;
+    }
+    if 65535 < u {
+        return false;
+    }
+    if 65535 < a {
+        return false;
+    }
+    b <= 65535
+}
+
+// Whether w columns and h rows in k bytes are cut out of v columns and u rows in n bytes, at the distances a and b.
+pub(crate) fn cut_fits(
+    w: usize,
+    h: usize,
+    v: usize,
+    u: usize,
+    a: usize,
+    b: usize,
+    n: usize,
+    k: usize,
+) -> bool
+    ensures { λ r. ⌜ r ≡ cutFits w h v u a b n k ⌝ }
+{
+    if !sides_fit(w, h, v, u, a, b) {
+        return false;
+    }
+    if n < v * u {
+        return false;
+    }
+    w * h <= k
+}

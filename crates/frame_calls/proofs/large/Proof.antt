@@ -1,0 +1,20 @@
+-- The longest plane has room for every one.
+use borrow.Author.Needs.{needs}
+use Rattle.frame_calls.proofs.Fitting.{plane-large}
+use Rattle.frame_calls.proofs.large.Statement.{statement}
+use Rattle.frame_calls.proofs.large.Tie as tie
+
+slice-aggregate-by-planes : tie.Need-slice-aggregate-by-planes
+slice-aggregate-by-planes c = search needs
+
+by-planes-requires : tie.Need-by-planes-requires
+by-planes-requires c κs = let st = c .before .before .before .before in (st .pre, plane-large (st .args .erode) (st .args .w) (st .args .h) (st .args .mask) (st .pre))
+
+same-length : tie.Need-same-length
+same-length c = search needs
+
+returns : tie.Need-returns
+returns c = search needs
+
+pub large-spec : {M : Type 1} → statement M
+large-spec = tie.close (tie.spec slice-aggregate-by-planes by-planes-requires same-length returns)

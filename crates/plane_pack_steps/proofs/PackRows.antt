@@ -1,0 +1,154 @@
+-- A frame packed group by group: after the rows below y, the plane shows the frame in them, and the value outside in all others.
+use mathlib.Core.Path.{_≡_, sym, ap, _∙_}
+use mathlib.Core.Logic.{⊎-elim}
+use mathlib.Core.Bool.{Bool, cond}
+use mathlib.Core.List.{List}
+use Prim.Native.Nat.{ℕ, _+_, _-_, _*_, _/_, _%_, min, _<_, _≤_}
+use native.Mathlib.Nat.{add-mul, mul-comm, mul-le-mul-right}
+use native.Mathlib.Omega.{arith}
+use lib.Dec.{ltb}
+use lib.IntN.{pos, _-ℤ_}
+use lib.ListN.{length, getD}
+use borrow.Author.Tests.{lt-ltb, le-ltb}
+use Rattle.plane.proofs.Tests.{lt-or-le}
+use Rattle.grids.specs.Image.{view}
+use Rattle.rows.specs.Cells.{bit}
+use Rattle.ranges.specs.Ranges.{Ranged}
+use Rattle.ranges.proofs.FlatRows.{rows-apart}
+use Rattle.ranges.proofs.Sizing.{product-le}
+use Rattle.ranges.proofs.Values.{value-in}
+use Rattle.planes.specs.Planes.{byteRows, planeSize, seen, Shows, lowBits}
+use Rattle.planes.proofs.WholeBytes.{one-value}
+use Rattle.planes.proofs.Views.{in-both, out-above, out-side, out-under}
+use Rattle.planes.proofs.OnGrids.{low-at, low-size}
+use Rattle.planes.proofs.Sizing.{size-small}
+use Rattle.plane_pack_steps.specs.Groups.{GroupPut, Packable}
+
+-- the frame f of W columns and H rows, the lowest bit of each cell, where the plane counts (x, y)
+abbrev pub framed : ℕ → ℕ → ℕ → List ℕ → ℕ → ℕ → ℕ
+framed v W H f x y = view v W H (lowBits f) (pos x -ℤ pos 2, pos y -ℤ pos 8)
+
+-- the plane d shows the frame in the rows below y, and v from there on
+pub record Until (v W H C R y : ℕ) (f d : List ℕ) : Type 0 where
+  pub at : (x z : ℕ) → x < C + 4 → z < byteRows R * 8 + 16 → seen (C + 2) d x z ≡ cond (ltb z (y + 8)) (framed v W H f x z) v
+
+module _ (v W H C R : ℕ) (f : List ℕ) where
+  -- a plane of one value
+  pub until-none : {d d′ : List ℕ} → v ≤ 1 → Ranged 0 0 (byteRows R * (C + 2) + 2 * (C + 2) + 2) (λ _. v * 255) d d′ → Until v W H C R 0 f d′
+  unfolding seen
+  until-none {d′ = d′} hv r = record {
+    at = λ x z lx lz.
+        let a : z / 8 * (C + 2) ≤ (byteRows R + 1) * (C + 2) = mul-le-mul-right (C + 2) (omega arith) in
+        let e = r .at (z / 8 * (C + 2) + x) (omega arith) (omega (arith, add-mul (byteRows R) 1 (C + 2))) in
+        ap (λ (n : ℕ). bit n (z % 8)) e ∙ one-value v (z % 8) hv (omega arith) ∙ ⊎-elim
+        (λ (u : z < 8). sym (ap (λ (t : Bool). cond t (framed v W H f x z) v) (lt-ltb z 8 u) ∙ out-above v W H (lowBits f) x z u))
+        (λ (u : 8 ≤ z). sym (ap (λ (t : Bool). cond t (framed v W H f x z) v) (le-ltb z 8 u)))
+        (lt-or-le z 8);
+  }
+
+  -- all rows
+  pub until-all : (y : ℕ) {d : List ℕ} → H ≤ y → planeSize C R ≤ length d → Until v W H C R y f d → Shows C R (view v W H (lowBits f)) d
+  until-all y h l u = record {
+    size = l;
+    at = λ x z lx lz. u .at x z lx lz ∙ ⊎-elim
+        (λ (t : z < y + 8). rw (lt-ltb z (y + 8) t))
+        (λ (t : y + 8 ≤ z). rw (le-ltb z (y + 8) t) (sym (out-under v W H (lowBits f) x z (omega arith))))
+        (lt-or-le z (y + 8));
+  }
+
+-- a byte that is the same shows the same
+same-seen : (s : ℕ) (d d′ : List ℕ) (x z : ℕ) → getD d′ (z / 8 * s + x) 0 ≡ getD d (z / 8 * s + x) 0 → seen s d′ x z ≡ seen s d x z
+unfolding seen
+same-seen s d d′ x z e = ap (λ (n : ℕ). bit n (z % 8)) e
+
+-- one group more
+module _ (v W H C R y p q : ℕ) (f d d′ : List ℕ) (hv : v ≤ 1) (hw : W ≤ C) (hy : y < H) (h8 : y % 8 ≡ 0) (hp : p ≡ (y / 8 + 1) * (C + 2) + 2) (hq : q ≡ y * W) (fits : W * H ≤ length f)
+    (hR : H ≤ R) (u : Until v W H C R y f d) (b : GroupPut W (H - y) p q (v * 255) f d d′) where
+  -- the rows of the group
+  abbrev r : ℕ
+  r = min (H - y) 8
+
+  module _ (x z : ℕ) (lx : x < C + 4) (lz : z < byteRows R * 8 + 16) where
+    -- a byte before or after the group is as it was
+    before : z / 8 * (C + 2) + x < p → seen (C + 2) d′ x z ≡ cond (ltb z (y + 8)) (framed v W H f x z) v
+    before l = same-seen (C + 2) d d′ x z (b .below (z / 8 * (C + 2) + x) l) ∙ u .at x z lx lz
+
+    after : p + W ≤ z / 8 * (C + 2) + x → seen (C + 2) d′ x z ≡ cond (ltb z (y + 8)) (framed v W H f x z) v
+    after l = same-seen (C + 2) d d′ x z (b .above (z / 8 * (C + 2) + x) l) ∙ u .at x z lx lz
+
+    above-rows : z < y + 8 → seen (C + 2) d′ x z ≡ cond (ltb z (y + 8 + 8)) (framed v W H f x z) v
+    above-rows l =
+        let a = rows-apart (C + 2) (z / 8) (y / 8 + 1) (omega arith) in
+        before (omega arith) ∙ rw (lt-ltb z (y + 8) l, lt-ltb z (y + 8 + 8) (omega arith))
+
+    below-rows : y + 8 + 8 ≤ z → seen (C + 2) d′ x z ≡ cond (ltb z (y + 8 + 8)) (framed v W H f x z) v
+    below-rows l =
+        let a = rows-apart (C + 2) (y / 8 + 1) (z / 8) (omega arith) in
+        after (omega arith) ∙ rw (le-ltb z (y + 8) (omega arith), le-ltb z (y + 8 + 8) l)
+
+    module _ (lo : y + 8 ≤ z) (hi : z < y + 8 + 8) where
+      row : z / 8 * (C + 2) ≡ (y / 8 + 1) * (C + 2)
+      row = let e : z / 8 ≡ y / 8 + 1 = omega arith in ap (λ (n : ℕ). n * (C + 2)) e
+
+      beside : (2 ≤ x → x < W + 2 → ⊥) → seen (C + 2) d′ x z ≡ cond (ltb z (y + 8 + 8)) (framed v W H f x z) v
+      beside n = was ∙ rw (le-ltb z (y + 8) lo, lt-ltb z (y + 8 + 8) hi) (sym (out-side v W H (lowBits f) x z (omega arith) n))
+        where
+          was : seen (C + 2) d′ x z ≡ cond (ltb z (y + 8)) (framed v W H f x z) v
+          was = ⊎-elim
+              (λ (w : x < 2). before (omega (arith, row)))
+              (λ (w : 2 ≤ x). ⊎-elim (λ (w' : x < W + 2). absurd (n w w')) (λ (w' : W + 2 ≤ x). after (omega (arith, row))) (lt-or-le x (W + 2)))
+              (lt-or-le x 2)
+
+      module _ (w : 2 ≤ x) (w' : x < W + 2) where
+        index : z / 8 * (C + 2) + x ≡ p + (x - 2)
+        index = omega (arith, row)
+
+        cell : z % 8 < r → getD f (q + (z % 8 * W + (x - 2))) 0 % 2 ≡ framed v W H f x z
+        cell l =
+            let g : z - 8 ≡ y + z % 8 = omega arith in
+            let e : q + (z % 8 * W + (x - 2)) ≡ (z - 8) * W + (x - 2) = omega (arith, add-mul y (z % 8) W, ap (λ (n : ℕ). n * W) g) in
+            ap (λ (n : ℕ). getD f n 0 % 2) e
+            ∙ sym (low-at f ((z - 8) * W + (x - 2)))
+            ∙ sym (in-both v W H (lowBits f) x z w (omega arith) ∙ value-in v (lowBits f) W H (omega (arith, low-size f)) (x - 2) (z - 8) (omega arith) (omega arith))
+
+        -- above the frame's last row stands the value outside
+        grouped : cond (ltb (z % 8) r) (getD f (q + (z % 8 * W + (x - 2))) 0 % 2) (bit (v * 255) (z % 8 - r)) ≡ framed v W H f x z
+        grouped = ⊎-elim
+            (λ (l : z % 8 < r). rw (lt-ltb (z % 8) r l) (cell l))
+            (λ (l : r ≤ z % 8). rw (le-ltb (z % 8) r l) (one-value v (z % 8 - r) hv (omega arith) ∙ sym (out-under v W H (lowBits f) x z (omega arith))))
+            (lt-or-le (z % 8) r)
+
+        inside : seen (C + 2) d′ x z ≡ cond (ltb z (y + 8 + 8)) (framed v W H f x z) v
+        unfolding seen
+        inside = ap (λ (n : ℕ). bit (getD d′ n 0) (z % 8)) index ∙ b .at (x - 2) (z % 8) (omega arith) (omega arith) ∙ grouped ∙ rw (lt-ltb z (y + 8 + 8) hi)
+
+    group-row : (lo : y + 8 ≤ z) → (hi : z < y + 8 + 8) → seen (C + 2) d′ x z ≡ cond (ltb z (y + 8 + 8)) (framed v W H f x z) v
+    group-row lo hi = ⊎-elim
+        (λ (w : x < 2). beside lo hi (λ a c. omega arith))
+        (λ (w : 2 ≤ x). ⊎-elim (λ (w' : x < W + 2). inside lo hi w w') (λ (w' : W + 2 ≤ x). beside lo hi (λ a c. omega arith)) (lt-or-le x (W + 2)))
+        (lt-or-le x 2)
+
+    one-more : seen (C + 2) d′ x z ≡ cond (ltb z (y + 8 + 8)) (framed v W H f x z) v
+    one-more = ⊎-elim
+        (λ (l : z < y + 8). above-rows l)
+        (λ (l : y + 8 ≤ z). ⊎-elim (λ (k : z < y + 8 + 8). group-row l k) (λ (k : y + 8 + 8 ≤ z). below-rows k) (lt-or-le z (y + 8 + 8)))
+        (lt-or-le z (y + 8))
+
+  pub until-more : Until v W H C R (y + 8) f d′
+  until-more = record { at = one-more }
+
+-- a group stands within the plane, and its cells within the frame
+pub group-fits : {v W H C R : ℕ} {f d : List ℕ} → Packable v W H C R f d → (y : ℕ) → y < H
+    → ((y / 8 + 1) * (C + 2) + 2 + W ≤ planeSize C R) × (y * W + min (H - y) 8 * W ≤ length f) × (y * W ≤ 65535 * 65535) × (planeSize C R ≤ 8195 * 65537 + 2)
+group-fits {v} {W} {H} {C} {R} {f} k y hy =
+    let h = k .high in
+    let l = k .wide in
+    let a : (y / 8 + 1) * (C + 2) ≤ byteRows R * (C + 2) = mul-le-mul-right (C + 2) (omega arith) in
+    let b : (y + min (H - y) 8) * W ≤ H * W = mul-le-mul-right W (omega arith) in
+    let s = size-small C R (k .columns) (k .rows) in
+    let m = product-le W H (omega (arith, k .wide, k .columns)) (omega (arith, k .high, k .rows)) in (
+      omega (arith, add-mul (byteRows R) 2 (C + 2)),
+      omega (arith, add-mul y (min (H - y) 8) W, mul-comm W H, k .cells),
+      omega (arith, add-mul y (min (H - y) 8) W, mul-comm W H),
+      omega arith,
+    )

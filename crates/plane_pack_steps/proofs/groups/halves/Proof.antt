@@ -1,0 +1,112 @@
+-- The two halves are all bytes.
+use native.Mathlib.Omega.{arith}
+use borrow.Author.Needs.{needs}
+use mathlib.Core.Path.{_≡_, ap, _∙_}
+use Prim.Native.Nat.{ℕ, _+_, _-_, _*_, _/_, _%_}
+use native.Mathlib.Nat.{mul-le-mul-right}
+use lib.ListN.{length, getD}
+use Rattle.ranges.proofs.Ranges.{getD-mid}
+use Rattle.planes.proofs.Bitting.{bitted-ap, bitted-part, bitted-lap}
+use Rattle.plane_pack_steps.proofs.groups.halves.Statement.{statement}
+use Rattle.plane_pack_steps.proofs.groups.halves.Tie as tie
+
+eights-requires : tie.Need-eights-requires
+eights-requires c κs = search needs
+
+same-length : tie.Need-same-length
+same-length c = search needs
+
+returns : tie.Need-returns
+returns c = search needs
+
+sub-h : tie.Need-sub-h
+sub-h c = search needs
+
+add-h : tie.Need-add-h
+add-h c = search needs
+
+mul-h : tie.Need-mul-h
+mul-h c = search needs
+
+sub-eights : tie.Need-sub-eights
+sub-eights c = search needs
+
+part-eights-start : tie.Need-part-eights-start
+part-eights-start c = search needs
+
+part-eights-end : tie.Need-part-eights-end
+part-eights-end c = search needs
+
+eights-requires-2 : tie.Need-eights-requires-2
+eights-requires-2 c κs = search needs
+
+sub-eights-2 : tie.Need-sub-eights-2
+sub-eights-2 c = search needs
+
+sub-eights-3 : tie.Need-sub-eights-3
+sub-eights-3 c = search needs
+
+part-eights-start-2 : tie.Need-part-eights-start-2
+part-eights-start-2 c = search needs
+
+part-eights-end-2 : tie.Need-part-eights-end-2
+part-eights-end-2 c = search needs
+
+sub-eights-4 : tie.Need-sub-eights-4
+sub-eights-4 c = search needs
+
+sub-eights-5 : tie.Need-sub-eights-5
+sub-eights-5 c = search needs
+
+part-eights-start-3 : tie.Need-part-eights-start-3
+part-eights-start-3 c = search needs
+
+part-eights-end-3 : tie.Need-part-eights-end-3
+part-eights-end-3 c = search needs
+
+eights-requires-3 : tie.Need-eights-requires-3
+eights-requires-3 c κs = search needs
+
+same-length-2 : tie.Need-same-length-2
+same-length-2 c = search needs
+
+returns-2 : tie.Need-returns-2
+returns-2 c =
+    let a = c .before .before .before .before .before .before .before .before .before .before .before .before .args in
+    let n = length (a .d .now) in
+    let h = (n - n / 2 + 15) / 16 * 16 in
+    let s = a .s .now in
+    let r = bitted-ap (bitted-part {a = 0} {e = h} {xs = a .d .now} (omega arith) (omega arith) (c .before .before .before .before .before .before .before .eights2 .ensures))
+    (λ k q lo hi lq. let e : k - 0 ≡ k = omega arith in ap (λ (i : ℕ). getD s (q * a .w + i) 0 % 2) e) in
+    let t = bitted-ap (bitted-part {a = n - h} {e = n} (omega arith) (omega (arith, r .len)) (c .before .before .eights3 .ensures))
+    (λ k q lo hi lq.
+    let e : n - h + (q * a .w + (k - (n - h))) ≡ q * a .w + k = omega arith in
+    let l = mul-le-mul-right {m = q} {n = 7} (a .w) (omega arith) in
+    ap (λ (i : ℕ). i % 2) (getD-mid 0 (n - h) (length s - (n - h)) s (q * a .w + (k - (n - h))) (omega arith) ∙ ap (λ (i : ℕ). getD s i 0) e)) in
+    bitted-lap r t (omega arith) (omega arith)
+
+pub halves-spec : {M : Type 1} → statement M
+halves-spec =
+    tie.close
+    (tie.spec
+    eights-requires
+    same-length
+    returns
+    sub-h
+    add-h
+    mul-h
+    sub-eights
+    part-eights-start
+    part-eights-end
+    eights-requires-2
+    sub-eights-2
+    sub-eights-3
+    part-eights-start-2
+    part-eights-end-2
+    sub-eights-4
+    sub-eights-5
+    part-eights-start-3
+    part-eights-end-3
+    eights-requires-3
+    same-length-2
+    returns-2)

@@ -1,0 +1,76 @@
+-- Without a column nothing is joined; else three columns are all that are set.
+use native.Mathlib.Omega.{arith}
+use borrow.Author.Needs.{needs}
+use mathlib.Core.Path.{sym, _∙_}
+use Prim.Native.Nat.{_+_}
+use lib.ListN.{length}
+use Rattle.plane_pass_steps.specs.Passes.{rowOf}
+use Rattle.plane_row_steps.proofs.RowPasses.{stands, some-set, next-row, next-none}
+use Rattle.plane_row_steps.proofs.Rooms.{reads-there}
+use Rattle.plane_row_steps.proofs.next_row.Statement.{statement}
+use Rattle.plane_row_steps.proofs.next_row.Tie as tie
+
+first-requires : tie.Need-first-requires
+first-requires c κs = search needs
+
+returns : tie.Need-returns
+returns c =
+    let a = c .before .before .before .before .args in
+    let e = c .before .before .before .before .pre .1 in
+    next-none (a .erode) (a .s .now) (a .o) (a .c) (a .mask) (rowOf (a .second)) (a .d .now) (rw e at (sym (c .before .first .ensures .0) ∙ c .if1 .taken))
+
+read-requires : tie.Need-read-requires
+read-requires c κs = search needs
+
+add-x : tie.Need-add-x
+add-x c = search needs
+
+read-requires-2 : tie.Need-read-requires-2
+read-requires-2 c κs = search needs
+
+add-y : tie.Need-add-y
+add-y c = search needs
+
+read-requires-3 : tie.Need-read-requires-3
+read-requires-3 c κs = search needs
+
+add-z : tie.Need-add-z
+add-z c = search needs
+
+join-requires : tie.Need-join-requires
+join-requires c κs = search needs
+
+same-length : tie.Need-same-length
+same-length c = search needs
+
+returns-2 : tie.Need-returns-2
+returns-2 c =
+    let a = c .before .before .before .before .before .before .before .before .before .before .before .args in
+    let e = c .before .before .before .before .before .before .before .before .before .before .before .pre .1 in
+    let f = c .before .before .before .before .before .before .before .before .first .ensures in
+    let p = c .before .before .before .before .before .before .read in
+    let q = c .before .before .before .before .before .read2 in
+    let r = c .before .before .before .before .read3 in
+    let u = p .ensures .1 in
+    let v = q .ensures .1 in
+    let w = r .ensures .1 in
+    next-row (a .erode) (a .s .now) (a .o) (a .c) (a .mask) (rowOf (a .second)) (a .o + p .result) (a .o + q .result) (a .o + r .result)
+    (rw e at (some-set (f .0) (f .1) (c .before .before .before .before .before .before .before .if1 .left)))
+    (rw e at (stands (a .erode) (a .o) (a .mask) (a .b) 0 (f .0) (p .ensures .0))) (rw e at (stands (a .erode) (a .o) (a .mask) (a .b) 1 (f .0) (q .ensures .0))) (rw e at (stands (a .erode) (a .o) (a .mask) (a .b) 2 (f .0) (r .ensures .0)))
+    (c .before .before .join .ensures .done (reads-there (length (a .d .now)) (length (a .s .now)) (a .c) (a .o + p .result) (a .o + q .result) (a .o + r .result) (omega arith) (omega arith) (omega arith)))
+
+pub next-row-spec : {M : Type 1} → statement M
+next-row-spec =
+    tie.close
+    (tie.spec
+    first-requires
+    returns
+    read-requires
+    add-x
+    read-requires-2
+    add-y
+    read-requires-3
+    add-z
+    join-requires
+    same-length
+    returns-2)
