@@ -22,8 +22,8 @@ fn bad_grid(w: usize, h: usize, image: &[u8]) -> bool
 pub(crate) fn refused(word: u32, w: usize, h: usize, from: &[u8], to: &[u8]) -> Answer
     ensures { λ r. ⌜ stated r ≡ refusal (firstOf (stageTests word w h (now (from .entry)) (now (to .entry)))) ⌝ }
 {
-    let kind = words::tried(Answer::Done(0), word / 268435456 != 5, Ground::WordKind);
-    let bit = words::tried(kind, word % 268435456 >= 512, Ground::ExtraBit);
+    let kind = words::tried(Answer::Done(0), word / 0x1000_0000 != 5, Ground::WordKind);
+    let bit = words::tried(kind, word % 0x1000_0000 >= 512, Ground::ExtraBit);
     let mask = words::tried(bit, !stage_steps::is_stage(word % 512), Ground::StageMask);
     let size = words::tried(mask, sizes::bad_size(w, h), Ground::FrameSize);
     if let Answer::Refused(ground) = size {

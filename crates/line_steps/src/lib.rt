@@ -110,7 +110,7 @@ fn read_one(s: Reading, b: u8) -> Reading
         count: s.count,
         words: words,
         digits: s.digits + 1,
-        value: (s.value % 268435456) * 16 + d,
+        value: (s.value % 0x1000_0000) * 16 + d,
     }
 }
 

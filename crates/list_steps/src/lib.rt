@@ -58,7 +58,7 @@ fn with_word(z: [u16; 16], ws: &[u32], at: usize) -> [u16; 16]
         Word::Row { y, columns } => {
             let mut r = z;
             let j = (y % 16) as usize;
-            r[j] = r[j] | ((columns % 65536) as u16);
+            r[j] = r[j] | ((columns % 0x1_0000) as u16);
             r
         }
         _ => z,

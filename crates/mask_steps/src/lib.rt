@@ -11,7 +11,7 @@ fn span(b: u16) -> u16
     requires { ⌜ b ≤ 1 ⌝ }
     ensures { λ r. ⌜ r ≡ b * 65535 ⌝ }
 {
-    b * 65535
+    b * 0xffff
 }
 
 // A row moved by i columns where the mask has bit c, and 0 where it has not.

@@ -61,10 +61,10 @@ fn line(w: u32) -> [u8; 9]
     ensures { λ r. ⌜ r ≡ wordLine w ⌝ }
 {
     [
-        digit(w / 268435456),
-        digit(w / 16777216),
-        digit(w / 1048576),
-        digit(w / 65536),
+        digit(w / 0x1000_0000),
+        digit(w / 0x100_0000),
+        digit(w / 0x10_0000),
+        digit(w / 0x1_0000),
         digit(w / 4096),
         digit(w / 256),
         digit(w / 16),

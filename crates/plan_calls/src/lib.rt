@@ -16,11 +16,11 @@ fn write_plan(x: u32, y: u32, p: Chosen, out: &mut [u32]) -> u32
 {
     let masks = p.masks;
     let n = p.n;
-    out[0] = 805306368 + n as u32;
-    out[1] = 1073741824 + y * 256 + x;
+    out[0] = 0x3000_0000 + n as u32;
+    out[1] = 0x4000_0000 + y * 256 + x;
     let mut i: usize = 0;
     while i < n {
-        out[i + 2] = 1342177280 + masks[n - 1 - i] as u32;
+        out[i + 2] = 0x5000_0000 + masks[n - 1 - i] as u32;
         i += 1;
     }
     n as u32 + 2

@@ -20,10 +20,10 @@ fn wrong_kinds(ws: &[u32]) -> bool
     requires { ⌜ 2 ≤ length (now ws) ⌝ }
     ensures { λ r. ⌜ r ≡ wrongPlanKinds (now (ws .entry)) ⌝ }
 {
-    if ws[0] / 268435456 != 3 {
+    if ws[0] / 0x1000_0000 != 3 {
         return true;
     }
-    if ws[1] / 268435456 != 4 {
+    if ws[1] / 0x1000_0000 != 4 {
         return true;
     }
     lists::wrong_kind(ws, 2, 5)
@@ -34,10 +34,10 @@ fn extra_bits(ws: &[u32]) -> bool
     requires { ⌜ 2 ≤ length (now ws) ⌝ }
     ensures { λ r. ⌜ r ≡ wrongPlanBits (now (ws .entry)) ⌝ }
 {
-    if ws[0] % 268435456 >= 256 {
+    if ws[0] % 0x1000_0000 >= 256 {
         return true;
     }
-    if ws[1] % 268435456 >= 65536 {
+    if ws[1] % 0x1000_0000 >= 0x1_0000 {
         return true;
     }
     lists::extra_bit(ws, 2, 512)

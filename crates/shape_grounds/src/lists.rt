@@ -22,7 +22,7 @@ pub fn wrong_kind(ws: &[u32], start: usize, kind: u32) -> bool
 {
     let mut i = start;
     while i < ws.len() {
-        if ws[i] / 268435456 != kind {
+        if ws[i] / 0x1000_0000 != kind {
             return true;
         }
         i += 1;
@@ -36,7 +36,7 @@ pub fn extra_bit(ws: &[u32], start: usize, limit: u32) -> bool
 {
     let mut i = start;
     while i < ws.len() {
-        if ws[i] % 268435456 >= limit {
+        if ws[i] % 0x1000_0000 >= limit {
             return true;
         }
         i += 1;

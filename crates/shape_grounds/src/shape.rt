@@ -14,7 +14,7 @@ pub(crate) fn wrong_kinds(ws: &[u32]) -> bool
     requires { ⌜ 2 ≤ length (now ws) ⌝ }
     ensures { λ r. ⌜ r ≡ wrongShapeKinds (now (ws .entry)) ⌝ }
 {
-    if ws[0] / 268435456 != 1 {
+    if ws[0] / 0x1000_0000 != 1 {
         return true;
     }
     lists::wrong_kind(ws, 1, 2)
@@ -25,10 +25,10 @@ pub(crate) fn extra_bits(ws: &[u32]) -> bool
     requires { ⌜ 2 ≤ length (now ws) ⌝ }
     ensures { λ r. ⌜ r ≡ wrongShapeBits (now (ws .entry)) ⌝ }
 {
-    if ws[0] % 268435456 >= 256 {
+    if ws[0] % 0x1000_0000 >= 256 {
         return true;
     }
-    lists::extra_bit(ws, 1, 1048576)
+    lists::extra_bit(ws, 1, 0x10_0000)
 }
 
 // Whether some row has no column.
@@ -37,7 +37,7 @@ fn empty_row(ws: &[u32]) -> bool
 {
     let mut i: usize = 1;
     while i < ws.len() {
-        if ws[i] % 65536 == 0 {
+        if ws[i] % 0x1_0000 == 0 {
             return true;
         }
         i += 1;
@@ -51,7 +51,7 @@ fn not_rising(ws: &[u32]) -> bool
 {
     let mut i: usize = 2;
     while i < ws.len() {
-        if ws[i] / 65536 % 16 <= ws[i - 1] / 65536 % 16 {
+        if ws[i] / 0x1_0000 % 16 <= ws[i - 1] / 0x1_0000 % 16 {
             return true;
         }
         i += 1;

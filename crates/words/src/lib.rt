@@ -17,7 +17,7 @@ pub enum Word {
 pub fn read(w: u32) -> Word
     ensures { λ r. ⌜ r ≡ wordOf w ⌝ }
 {
-    let kind = w / 268435456;
+    let kind = w / 0x1000_0000;
     match kind {
         0 => Word::Unused(0),
         1 => Word::Anchor {
@@ -25,8 +25,8 @@ pub fn read(w: u32) -> Word
             ay: w / 16 % 16,
         },
         2 => Word::Row {
-            y: w / 65536 % 16,
-            columns: w % 65536,
+            y: w / 0x1_0000 % 16,
+            columns: w % 0x1_0000,
         },
         3 => Word::Head(w % 256),
         4 => Word::Place {
