@@ -16,7 +16,7 @@ use Rattle.shapes.specs.Calls.{shortOutput}
 use Rattle.shapes.specs.Plan.{planWords, planTests}
 use Rattle.shapes.specs.Shape.{shapeTests}
 use Rattle.shapes.proofs.Written.{plan-clear}
-use Rattle.planning.specs.Planning.{Shape, planningTests, PlanWritten, Unplannable}
+use Rattle.planning.specs.Planning.{ShapeSet, planningTests, PlanWritten, Unplannable}
 use Rattle.planning.proofs.Decided.{accepted, written-words}
 use Rattle.grids.specs.Frame.{gridSize}
 use Rattle.grids.specs.Grid.{workTests}
@@ -110,7 +110,7 @@ module _ (op : Operation) (ws : List ℕ) (W H : ℕ) (f i j own : List ℕ) (ro
         record {
           answer = c .answer;
           turns = h ∙ c .turns;
-          direct = subst (Direct op W H f (Shape ws)) (sym h) (c .direct);
+          direct = subst (Direct op W H f (ShapeSet ws)) (sym h) (c .direct);
         }
 
   pub claimed : Claim op ws W H f i j (stated s) (handedFor (stated s) W H i′ j′)

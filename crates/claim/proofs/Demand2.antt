@@ -22,18 +22,18 @@ use Rattle.shapes.specs.Plan.{planTests, planPoints}
 use Rattle.shapes.specs.Shape.{shapeTests, shapePoints, outOfRange}
 use Rattle.shapes.proofs.Listed.{listed-points}
 use Rattle.shapes.proofs.Written.{plan-points}
-use Rattle.planning.specs.Planning.{Shape}
+use Rattle.planning.specs.Planning.{ShapeSet}
 use Rattle.cleaning.specs.Cleaning.{Cleaned, operationTests, part}
 use Rattle.cleaning.specs.Operation.{Direct}
 use Rattle.claim.specs.Demand2.{Demand2}
 use Rattle.claim.proofs.Cells.{put-shown, stage-shown, load-counted}
 
-stands : (A : List Point) (out out′ : List ℕ) (r : Answer) → T (not (outOfRange A)) → ListWritten A out r out′ → Shape (take (stated r .1) out′) ≐ In A
+stands : (A : List Point) (out out′ : List ℕ) (r : Answer) → T (not (outOfRange A)) → ListWritten A out r out′ → ShapeSet (take (stated r .1) out′) ≐ In A
 stands A out out′ r fit w =
     let head : take (stated r .1) out′ ≡ listed A = ap₂ (λ s o. take (s .1) o) (w .answer) (w .words) ∙ take-append-seam (listed A) (drop (length (listed A)) out) in
     subst (λ l. In (shapePoints l) ≐ In A) (sym head) (listed-points A fit)
 
-moved-is : (ws : List ℕ) (d : Point) → In (movedPoints ws d) ≐ moved d (Shape ws)
+moved-is : (ws : List ℕ) (d : Point) → In (movedPoints ws d) ≐ moved d (ShapeSet ws)
 moved-is ws d p = (
   λ h. let r = In-map (λ q. q +ᵖ d) (shapePoints ws) p .0 h in subst (In (shapePoints ws)) (sym (ap (λ q. q -ᵖ d) (r .2) ∙ +ᵖ-cancel (r .0) d)) (r .1),
   λ h. In-map (λ q. q +ᵖ d) (shapePoints ws) p .1 (p -ᵖ d, h, sym (subᵖ-cancel p d)),

@@ -17,7 +17,7 @@ use Rattle.masks.specs.Mask.{stage}
 use Rattle.shapes.specs.Plan.{planPoints, planWords, planTests}
 use Rattle.shapes.proofs.Accepted.{Shaped}
 use Rattle.shapes.proofs.Written.{plan-clear, masks-are, offset-is, plan-stands}
-use Rattle.planning.specs.Planning.{Shape, PlanWritten, Unplannable}
+use Rattle.planning.specs.Planning.{ShapeSet, PlanWritten, Unplannable}
 use Rattle.planning.proofs.Decided.{chain-of, accepted, written-words}
 use Rattle.grids.specs.Grid.{workTests}
 use Rattle.cleaning.specs.Cleaning.{part, operationTests, stagesRun, Cleaned}
@@ -31,7 +31,7 @@ work-clear : (W H : ℕ) (f i j : List ℕ) → firstOf (workTests W H f i j) �
 unfolding workTests
 work-clear W H f i j e = clear (workTests W H f i j) tt e
 
-module _ (ws : List ℕ) (S : Shaped ws) (d : Point) (ms : List ℕ) (P : PlanOf stage (Shape ws) d ms) where
+module _ (ws : List ℕ) (S : Shaped ws) (d : Point) (ms : List ℕ) (P : PlanOf stage (ShapeSet ws) d ms) where
   -- none of the four operations refuses the plan's words on an accepted frame
   pub runs : (W H : ℕ) (f i j : List ℕ) → firstOf (workTests W H f i j) ≡ 0 → firstOf (operationTests (planWords d ms) W H f i j) ≡ 0
   runs W H f i j e =
@@ -50,7 +50,7 @@ module _ (ws : List ℕ) (S : Shaped ws) (d : Point) (ms : List ℕ) (P : PlanOf
       record {
         answer = ran .answer ∙ ap (λ l. result (stagesRun op (length l))) masks;
         turns = ap (λ a. part (a .1) W H i′ j′) (ran .answer) ∙ ran .handed ∙ ap₂ (λ p l. inTurn op W H f p l) (offset-is ws S d ms P) masks;
-        direct = same-direct op W H f (In (planPoints plan)) (Shape ws) (part (stated s .1) W H i′ j′) (plan-stands ws S d ms P) given;
+        direct = same-direct op W H f (In (planPoints plan)) (ShapeSet ws) (part (stated s .1) W H i′ j′) (plan-stands ws S d ms P) given;
       }
 
 -- the plan that was written, and what each operation makes of the words that were written
@@ -82,7 +82,7 @@ demand3 ws out r out′ p e = go (p .done e)
     go : Unplannable ws out r out′ ⊎ PlanWritten ws out r out′ → Decided ws out r out′
     go (inl u) = record { none = (λ _. u .none, λ _. u .answer); plan = inl (u .answer) }
     go (inr w) =
-        let chain = chain-of (Shape ws) (w .offset) (w .stages) (w .picked .plan) in
+        let chain = chain-of (ShapeSet ws) (w .offset) (w .stages) (w .picked .plan) in
         record {
           none = (λ q. absurd (not-ten r (length (w .stages) + 2) (w .answer) q), λ f. absurd (f chain));
           plan = inr (served ws out r out′ (accepted ws out e) w);

@@ -15,7 +15,7 @@ use Rattle.masks.specs.Mask.{stage, maskCells}
 use Rattle.masks.proofs.Measured.{four}
 use Rattle.shapes.specs.Calls.{TurnedBack}
 use Rattle.shapes.specs.Shape.{shapePoints, shapeTests}
-use Rattle.planning.specs.Planning.{Shape, Planned, PlanWritten}
+use Rattle.planning.specs.Planning.{ShapeSet, Planned, PlanWritten}
 use Rattle.grids.specs.Frame.{frameTests, LoadCounted}
 use Rattle.grids.specs.Grid.{once, putTests, FramePut, stageTests, Staged}
 use Rattle.grids.specs.Image.{cells, valueAt}
@@ -31,7 +31,7 @@ use Rattle.claim.specs.Whole.{handedFor, Lent}
 use Rattle.claim.proofs.Measured.{accepts}
 
 -- the row of four cells has a chain of two members
-four-chain : (c : Chain subset (Shape fourWords)) × (length (c .members) ≡ 2)
+four-chain : (c : Chain subset (ShapeSet fourWords)) × (length (c .members) ≡ 2)
 unfolding shapePoints _+ᵖ_ negᵖ
 four-chain = (record { members = 3 ∷ 5 ∷ []; offset = origin; masks = tt; sum = four .plan .sum }, refl)
 

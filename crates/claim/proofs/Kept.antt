@@ -18,7 +18,7 @@ use Rattle.shapes.specs.Calls.{ListWritten, ListAnswered, movingTests, movedPoi
 use Rattle.shapes.specs.Listed.{listed}
 use Rattle.shapes.specs.Plan.{planTests, planPoints}
 use Rattle.shapes.specs.Shape.{shapeTests}
-use Rattle.planning.specs.Planning.{Shape, planningTests, Planned, Unplannable, PlanWritten}
+use Rattle.planning.specs.Planning.{ShapeSet, planningTests, Planned, Unplannable, PlanWritten}
 use Rattle.planning.proofs.Decided.{can-plan, can-refuse}
 use Rattle.grids.specs.Frame.{frameTests, load, free}
 use Rattle.grids.specs.Grid.{putTests, stageTests, put, once, written, GridWritten, workTests}
@@ -41,13 +41,13 @@ grid-kept ts W H g i k = can-keep ts k i (λ i′. i′ ≡ i) (λ r i′. GridW
 
 -- ---- planning and cleaning
 
-plan-kept : (ws out : List ℕ) → (firstOf (planningTests ws out) ≡ 0 → (¬ Chain subset (Shape ws)) ⊎ ((d : Point) × (ms : List ℕ) × Picked stage (Shape ws) d ms))
+plan-kept : (ws out : List ℕ) → (firstOf (planningTests ws out) ≡ 0 → (¬ Chain subset (ShapeSet ws)) ⊎ ((d : Point) × (ms : List ℕ) × Picked stage (ShapeSet ws) d ms))
     → (r : Answer) × (out′ : List ℕ) × Planned ws out r out′
 unfolding shapeTests
 plan-kept ws out f =
     can-keep (planningTests ws out) tt out (λ out′. out′ ≡ out) (λ r out′. Unplannable ws out r out′ ⊎ PlanWritten ws out r out′) refl (λ e. go e (f e))
   where
-    go : firstOf (planningTests ws out) ≡ 0 → (¬ Chain subset (Shape ws)) ⊎ ((d : Point) × (ms : List ℕ) × Picked stage (Shape ws) d ms)
+    go : firstOf (planningTests ws out) ≡ 0 → (¬ Chain subset (ShapeSet ws)) ⊎ ((d : Point) × (ms : List ℕ) × Picked stage (ShapeSet ws) d ms)
         → (r : Answer) × (out′ : List ℕ) × (Unplannable ws out r out′ ⊎ PlanWritten ws out r out′)
     go e (inl none) = let q = can-refuse ws out e none in (q .0, q .1, q .2 .done e)
     go e (inr p) = let q = can-plan ws out e (p .0) (p .1) (p .2) in (q .0, q .1, q .2 .done e)

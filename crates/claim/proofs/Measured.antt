@@ -26,7 +26,7 @@ use Rattle.shapes.specs.Plan.{planWords}
 use Rattle.shapes.specs.Shape.{shapeTests, shapePoints}
 use Rattle.shapes.proofs.Accepted.{accepted-shape}
 use Rattle.shapes.proofs.Written.{sum-small}
-use Rattle.planning.specs.Planning.{Shape, planningTests}
+use Rattle.planning.specs.Planning.{ShapeSet, planningTests}
 use Rattle.planning.specs.Printer.{wordLines, PrintedFor, shown}
 use Rattle.planning.proofs.Decided.{can-plan, can-refuse, planned, unplanned}
 use Rattle.planning.proofs.Once.{reads-once}
@@ -50,7 +50,7 @@ unfolding shapeTests
 accepts ws e out h =
     unclear (planningTests ws out) (clear-append (shapeTests ws) ((9, shortOutput 32 out) ∷ []) (clear (shapeTests ws) tt e) (not-ltb (length out) 32 h, tt))
 
-module _ (ws : List ℕ) (d : Point) (ms : List ℕ) (e : firstOf (shapeTests ws) ≡ 0) (P : Picked stage (Shape ws) d ms) where
+module _ (ws : List ℕ) (d : Point) (ms : List ℕ) (e : firstOf (shapeTests ws) ≡ 0) (P : Picked stage (ShapeSet ws) d ms) where
   count : length ms + 2 ≡ length (planWords d ms)
   count = let l = length-map ms stageWord in omega arith
 
@@ -64,7 +64,7 @@ module _ (ws : List ℕ) (d : Point) (ms : List ℕ) (e : firstOf (shapeTests ws
   }
 
 -- a shape list that passes its grounds and has no chain is refused by 10
-refused-ten : (ws : List ℕ) → firstOf (shapeTests ws) ≡ 0 → ¬ Chain subset (Shape ws) → RefusedTen ws
+refused-ten : (ws : List ℕ) → firstOf (shapeTests ws) ≡ 0 → ¬ Chain subset (ShapeSet ws) → RefusedTen ws
 refused-ten ws e none = record {
   accepted = accepts ws e;
   possible = λ out h. can-refuse ws out (accepts ws e out h) none;
@@ -89,7 +89,7 @@ row-accepted f i j b c h k =
     times-one n = omega arith
 
 -- an accepted shape with a picked plan, and a row: what the stages give in turn is what is handed back
-cleans-as : (op : Operation) (ws : List ℕ) (d : Point) (ms f : List ℕ) (n : ℕ) (r : List ℕ) → firstOf (shapeTests ws) ≡ 0 → Picked stage (Shape ws) d ms
+cleans-as : (op : Operation) (ws : List ℕ) (d : Point) (ms f : List ℕ) (n : ℕ) (r : List ℕ) → firstOf (shapeTests ws) ≡ 0 → Picked stage (ShapeSet ws) d ms
     → T (not (badSize (length f) 1)) → T (not (badCell f)) → stagesRun op (length ms) ≡ n → inTurn op (length f) 1 f d ms ≡ r
     → CleanedAs op ws (planWords d ms) f n r
 unfolding shapeTests
@@ -99,7 +99,7 @@ cleans-as op ws d ms f n r e P b c k t =
     let W = length f in
     record {
       plans = plans-as ws d ms e P;
-      direct = subst (Direct op W 1 f (Shape ws)) t (turn-direct op W 1 f d ms (Shape ws) (Q .stages) (sum-small ws S d ms Q) (binary f c) (Q .sum));
+      direct = subst (Direct op W 1 f (ShapeSet ws)) t (turn-direct op W 1 f d ms (ShapeSet ws) (Q .stages) (sum-small ws S d ms Q) (binary f c) (Q .sum));
       possible = λ i j h l. can-clean op (planWords d ms) W 1 f i j (runs ws S d ms Q W 1 f i j (row-accepted f i j b c h l));
       answer = λ i j h l s i′ j′ q. agrees ws S d ms Q op W 1 f i j s i′ j′ (row-accepted f i j b c h l) q .answer ∙ ap result k;
       handed = λ i j h l s i′ j′ q. agrees ws S d ms Q op W 1 f i j s i′ j′ (row-accepted f i j b c h l) q .turns ∙ t;
@@ -107,16 +107,16 @@ cleans-as op ws d ms f n r e P b c k t =
 
 -- ---- the shapes of one row that the frames are cleaned with
 
-threePicked : Picked stage (Shape threeWords) origin (7 ∷ [])
+threePicked : Picked stage (ShapeSet threeWords) origin (7 ∷ [])
 unfolding shapePoints _+ᵖ_ negᵖ search same stage sumCells cellSums
-threePicked = picked (Shape threeWords) A origin (7 ∷ []) (placed (shapePoints threeWords) A origin refl tt tt) tt tt tt tt refl
+threePicked = picked (ShapeSet threeWords) A origin (7 ∷ []) (placed (shapePoints threeWords) A origin refl tt tt) tt tt tt tt refl
   where
     A : List Cell
     A = (0, 0) ∷ (1, 0) ∷ (2, 0) ∷ []
 
-twoPicked : Picked stage (Shape twoWords) origin (3 ∷ [])
+twoPicked : Picked stage (ShapeSet twoWords) origin (3 ∷ [])
 unfolding shapePoints _+ᵖ_ negᵖ search same stage sumCells cellSums
-twoPicked = picked (Shape twoWords) A origin (3 ∷ []) (placed (shapePoints twoWords) A origin refl tt tt) tt tt tt tt refl
+twoPicked = picked (ShapeSet twoWords) A origin (3 ∷ []) (placed (shapePoints twoWords) A origin refl tt tt) tt tt tt tt refl
   where
     A : List Cell
     A = (0, 0) ∷ (1, 0) ∷ []
@@ -124,7 +124,7 @@ twoPicked = picked (Shape twoWords) A origin (3 ∷ []) (placed (shapePoints two
 abbrev right : Point
 right = (pos 1, pos 0)
 
-rightPicked : Picked stage (Shape rightWords) right []
+rightPicked : Picked stage (ShapeSet rightWords) right []
 unfolding shapePoints _+ᵖ_ negᵖ
 rightPicked = one right (shapePoints rightWords) refl
 

@@ -10,7 +10,7 @@ use Rattle.words.specs.Ground.{Test, firstOf, stated, refusal}
 use Rattle.words.specs.declared.Answer.{Answer}
 use Rattle.masks.specs.Chain.{Chain}
 use Rattle.shapes.specs.Calls.{Moved, movingTests, Joined, joiningTests, Summed, summingTests, TurnedBack, turningTests}
-use Rattle.planning.specs.Planning.{Shape, member, planningTests, Planned}
+use Rattle.planning.specs.Planning.{ShapeSet, member, planningTests, Planned}
 use Rattle.grids.specs.Frame.{frameTests, LoadCounted}
 use Rattle.grids.specs.Grid.{putTests, FramePut, stageTests, Staged}
 use Rattle.cleaning.specs.Cleaning.{operationTests, Cleaned}
@@ -24,7 +24,7 @@ First tests r Unchanged = (stated r .0 ≡ firstOf tests) × (stated r .0 ≢ 0 
 -- planning has one ground more, 10: no other ground holds, and no list of subsets of the square, of any length and with any offset, sums to the shape
 pub record NoChain (ws out : List ℕ) (r : Answer) (out′ : List ℕ) : Type 0 where
   pub first : firstOf (planningTests ws out) ≡ 0
-  pub none : ¬ Chain member (Shape ws)
+  pub none : ¬ Chain member (ShapeSet ws)
   pub answer : stated r ≡ refusal 10
   pub kept : out′ ≡ out
 

@@ -18,7 +18,7 @@ use Rattle.masks.specs.Chain.{sumOf}
 use Rattle.masks.specs.Mask.{maskPoints}
 use Rattle.shapes.specs.Plan.{planPoints, planOffset, planMasks}
 use Rattle.shapes.specs.Calls.{Moved, movingTests, Joined, joiningTests, Summed, summingTests, TurnedBack, turningTests}
-use Rattle.planning.specs.Planning.{Shape}
+use Rattle.planning.specs.Planning.{ShapeSet}
 use Rattle.grids.specs.Frame.{free, full, frame, occupied, gridSize, frameTests, LoadCounted}
 use Rattle.grids.specs.Grid.{grid, putTests, FramePut, stageTests, Staged}
 use Rattle.grids.specs.Image.{cells}
@@ -40,13 +40,13 @@ stageMade false X A = dilation X A
 pub record Demand2 : Type 0 where
   -- the words written, as many as the length returned, stand for exactly the points moved, joined or summed, or for those of the plan
   pub moving : (ws : List ℕ) (d : Point) (out : List ℕ) (r : Answer) (out′ : List ℕ) → Moved ws d out r out′ → firstOf (movingTests ws d out) ≡ 0
-      → Shape (take (stated r .1) out′) ≐ moved d (Shape ws)
+      → ShapeSet (take (stated r .1) out′) ≐ moved d (ShapeSet ws)
   pub joining : (ws vs out : List ℕ) (r : Answer) (out′ : List ℕ) → Joined ws vs out r out′ → firstOf (joiningTests ws vs out) ≡ 0
-      → Shape (take (stated r .1) out′) ≐ (λ p. Shape ws p ⊎ Shape vs p)
+      → ShapeSet (take (stated r .1) out′) ≐ (λ p. ShapeSet ws p ⊎ ShapeSet vs p)
   pub summing : (ws vs out : List ℕ) (r : Answer) (out′ : List ℕ) → Summed ws vs out r out′ → firstOf (summingTests ws vs out) ≡ 0
-      → Shape (take (stated r .1) out′) ≐ Shape ws ⊕ Shape vs
+      → ShapeSet (take (stated r .1) out′) ≐ ShapeSet ws ⊕ ShapeSet vs
   pub turning : (ws out : List ℕ) (r : Answer) (out′ : List ℕ) → TurnedBack ws out r out′ → firstOf (turningTests ws out) ≡ 0
-      → Shape (take (stated r .1) out′) ≐ moved (planOffset ws) (In (sumOf (planMasks ws)))
+      → ShapeSet (take (stated r .1) out′) ≐ moved (planOffset ws) (In (sumOf (planMasks ws)))
   -- on every accepted plan list and frame, whoever wrote the plan, what is handed back for the number that the operation answered is what the plane's
   -- definitions make of the frame and the plan's points
   pub cleaning : (op : Operation) (plan : List ℕ) (W H : ℕ) (f i j : List ℕ) (s : Answer) (i′ j′ : List ℕ) → Cleaned op plan W H f i j s i′ j′

@@ -10,7 +10,7 @@ use Rattle.words.specs.Ground.{firstOf}
 use Rattle.words.specs.declared.Answer.{Answer}
 use Rattle.masks.specs.Chain.{Chain, Picked}
 use Rattle.shapes.specs.Calls.{Moved, Joined, Summed, TurnedBack}
-use Rattle.planning.specs.Planning.{Shape, member, permitted, planningTests, Planned}
+use Rattle.planning.specs.Planning.{ShapeSet, member, permitted, planningTests, Planned}
 use Rattle.grids.specs.Frame.{LoadCounted}
 use Rattle.grids.specs.Grid.{FramePut, Staged}
 use Rattle.cleaning.specs.Cleaning.{Cleaned}
@@ -22,7 +22,7 @@ pub record Kept : Type 0 where
   pub summing : (ws vs out : List ℕ) → (r : Answer) × (out′ : List ℕ) × Summed ws vs out r out′
   pub turning : (ws out : List ℕ) → (r : Answer) × (out′ : List ℕ) × TurnedBack ws out r out′
   pub planning : (ws out : List ℕ)
-      → (firstOf (planningTests ws out) ≡ 0 → (¬ Chain member (Shape ws)) ⊎ ((d : Point) × (ms : List ℕ) × Picked permitted (Shape ws) d ms))
+      → (firstOf (planningTests ws out) ≡ 0 → (¬ Chain member (ShapeSet ws)) ⊎ ((d : Point) × (ms : List ℕ) × Picked permitted (ShapeSet ws) d ms))
       → (r : Answer) × (out′ : List ℕ) × Planned ws out r out′
   pub counting : (W H : ℕ) (f : List ℕ) → (r : Answer) × LoadCounted W H f r
   pub putting : (W H : ℕ) (f i : List ℕ) → (r : Answer) × (i′ : List ℕ) × FramePut W H f i r i′

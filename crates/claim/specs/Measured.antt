@@ -12,7 +12,7 @@ use Rattle.words.specs.Ground.{firstOf, stated, result, refusal}
 use Rattle.words.specs.declared.Answer.{Answer}
 use Rattle.masks.specs.Chain.{PlanOf, before}
 use Rattle.shapes.specs.Shape.{shapePoints}
-use Rattle.planning.specs.Planning.{Shape, permitted, planningTests, Planned}
+use Rattle.planning.specs.Planning.{ShapeSet, permitted, planningTests, Planned}
 use Rattle.planning.specs.Printer.{Printed, lineFeed}
 use Rattle.grids.specs.Frame.{gridSize}
 use Rattle.cleaning.specs.Operation.{Direct}
@@ -76,7 +76,7 @@ rightWords = 0x10000000 ∷ 0x20000002 ∷ []
 -- whatever the work images held; the answer is the number n of stages run
 pub record CleanedAs (op : Operation) (ws plan f : List ℕ) (n : ℕ) (r : List ℕ) : Type 0 where
   pub plans : PlannedAs ws plan
-  pub direct : Direct op (length f) 1 f (Shape ws) r
+  pub direct : Direct op (length f) 1 f (ShapeSet ws) r
   pub possible : (i j : List ℕ) → gridSize (length f) 1 ≤ length i → gridSize (length f) 1 ≤ length j
       → (s : Answer) × (i′ : List ℕ) × (j′ : List ℕ) × Cleaned op plan (length f) 1 f i j s i′ j′
   pub answer : (i j : List ℕ) → gridSize (length f) 1 ≤ length i → gridSize (length f) 1 ≤ length j
@@ -91,7 +91,7 @@ pub record Measured : Type 0 where
   pub four-prints : Printed fourInput fourOutput
   -- 3 then 5 comes before 3 then 7, which is a plan of it too
   pub four-before : (before (3 ∷ 5 ∷ []) (3 ∷ 7 ∷ []) ≡ true) × (before (3 ∷ 7 ∷ []) (3 ∷ 5 ∷ []) ≡ false)
-  pub four-other : PlanOf permitted (Shape fourWords) origin (3 ∷ 7 ∷ [])
+  pub four-other : PlanOf permitted (ShapeSet fourWords) origin (3 ∷ 7 ∷ [])
   -- one cell (0,0) with anchor (0,0), and with anchor (15,15): n = 0
   pub cell : PlannedAs (0x10000000 ∷ 0x20000001 ∷ []) (0x30000000 ∷ 0x40000f0f ∷ [])
   pub corner : PlannedAs (0x100000ff ∷ 0x20000001 ∷ []) (0x30000000 ∷ 0x40000000 ∷ [])

@@ -13,7 +13,7 @@ use Rattle.words.specs.Ground.{firstOf, stated, result, refusal}
 use Rattle.words.specs.declared.Answer.{Answer}
 use Rattle.masks.specs.Chain.{Chain, Picked, sumOf}
 use Rattle.shapes.specs.Shape.{shapeTests}
-use Rattle.planning.specs.Planning.{Shape, member, permitted, Planned}
+use Rattle.planning.specs.Planning.{ShapeSet, member, permitted, Planned}
 use Rattle.grids.specs.Frame.{gridSize}
 use Rattle.grids.specs.Grid.{workTests}
 use Rattle.cleaning.specs.Operation.{Direct, inTurn}
@@ -24,7 +24,7 @@ use Rattle.cleaning.specs.declared.Operation.{Operation}
 
 -- planning answers "no chain", and no list of subsets of the square, of any length and with any offset, has the shape as its sum
 pub record NoPlan (ws : List ℕ) (s : ℕ × ℕ) : Type 0 where
-  pub none : ¬ Chain member (Shape ws)
+  pub none : ¬ Chain member (ShapeSet ws)
   pub answer : s ≡ refusal 10
 
 -- the operation ran the plan with the offset d and the stages ms: it answers the number of stages run, and the part is, cell for cell, both what the single
@@ -32,7 +32,7 @@ pub record NoPlan (ws : List ℕ) (s : ℕ × ℕ) : Type 0 where
 pub record Handed (op : Operation) (ws : List ℕ) (W H : ℕ) (f : List ℕ) (d : Point) (ms : List ℕ) (s : ℕ × ℕ) (p : List ℕ) : Type 0 where
   pub answer : s ≡ result (stagesRun op (length ms))
   pub turns : p ≡ inTurn op W H f d ms
-  pub direct : Direct op W H f (Shape ws) p
+  pub direct : Direct op W H f (ShapeSet ws) p
 
 -- planning writes the plan that document 01 picks; its stages, moved by its offset, sum to the shape, and every other list of subsets of the square that
 -- sums to it, with whatever offset, has at least as many members; on an accepted frame, whatever the work images held, the operation runs it, and any other
@@ -40,9 +40,9 @@ pub record Handed (op : Operation) (ws : List ℕ) (W H : ℕ) (f : List ℕ) (d
 pub record Run (op : Operation) (ws : List ℕ) (W H : ℕ) (f i j : List ℕ) (s : ℕ × ℕ) (p : List ℕ) : Type 0 where
   pub offset : Point
   pub stages : List ℕ
-  pub picked : Picked permitted (Shape ws) offset stages
-  pub sum : Shape ws ≐ moved offset (In (sumOf stages))
-  pub fewest : (c : Chain member (Shape ws)) → length stages ≤ length (c .members)
+  pub picked : Picked permitted (ShapeSet ws) offset stages
+  pub sum : ShapeSet ws ≐ moved offset (In (sumOf stages))
+  pub fewest : (c : Chain member (ShapeSet ws)) → length stages ≤ length (c .members)
   pub accepted : firstOf (workTests W H f i j) ≡ 0 → Handed op ws W H f offset stages s p
   pub refused : firstOf (workTests W H f i j) ≢ 0 → s ≡ refusal (firstOf (workTests W H f i j))
 

@@ -29,7 +29,7 @@ use Rattle.cleaning.proofs.Kept.{turn-length}
 use Rattle.cleaning.proofs.Plans.{accepted-direct}
 use Rattle.cleaning.proofs.Starts.{over-length, over-past, frame-in-grid, hand, hand-start}
 use Rattle.turn_steps.specs.Turns.{standingImage, Shown, Room, Past, Ended}
-use Rattle.turn_steps.specs.Cutting.{ahead, CutAway}
+use Rattle.turn_steps.specs.Cutting.{distance, CutAway}
 use Rattle.turn_steps.specs.Running.{Runnable}
 use Rattle.clean_calls.proofs.Accepted.{plan-length, place-small}
 use Rattle.turn_steps.proofs.Alternating.{either, kept-past, past-same, past-then, room-past, same-either, same-of}
@@ -123,7 +123,7 @@ module _ (plan : List ℕ) (W H : ℕ) (f i j : List ℕ) (z : firstOf (operatio
         cut-is =
             c .to
             ∙ ap (λ l. l ++ drop (W * H) (resultImage n i₂ j₂))
-            (shown-cut free (W + 15) (H + 15) last (standingImage n i₂ j₂) (e .shown (put W H f) first-shown) W H (ahead op (placeX (getD plan 1 0))) (ahead op (placeY (getD plan 1 0)))
+            (shown-cut free (W + 15) (H + 15) last (standingImage n i₂ j₂) (e .shown (put W H f) first-shown) W H (distance op (placeX (getD plan 1 0))) (distance op (placeY (getD plan 1 0)))
             ∙ cut-turn op plan W H f last (getD plan 1 0) refl (small .0) (small .1) refl)
 
         size : length turned ≡ W * H

@@ -12,7 +12,7 @@ use Rattle.plane.specs.Point.{_+ᵖ_}
 use Rattle.plane.proofs.Integer.{diff-ge, diff-lt}
 use Rattle.plane.proofs.Tests.{lt-or-le}
 use Rattle.grids.specs.Image.{valueAt, view}
-use Rattle.ranges.specs.Ranges.{Ranged, Laid, over}
+use Rattle.ranges.specs.Ranges.{Ranged, Laid, overFront}
 use Rattle.ranges.proofs.Ranges.{ranged-ap, ranged-join}
 use Rattle.ranges.proofs.FlatRows.{rows-apart}
 use Rattle.ranges.proofs.Whole.{laid-is}
@@ -149,7 +149,7 @@ module _ {F : ℕ → ℕ → ℕ} {w : ℕ} where
 
 -- and as a list
 pub cut-is : (v w h C R a b : ℕ) (g : List ℕ) {d d' : List ℕ} → w * h ≤ length d → Laid (λ x y. seen v C R g (x + a) (y + b)) w h d d'
-    → d' ≡ over (w * h) (cutOut v w h C R a b g) d
+    → d' ≡ overFront (w * h) (cutOut v w h C R a b g) d
 unfolding cutOut seen _+ᵖ_
 cut-is v w h C R a b g room t =
     laid-is w h (λ p. view v C R g (p +ᵖ (pos a -ℤ pos 15, pos b -ℤ pos 15)))

@@ -6,7 +6,7 @@ use Prim.Native.Nat.{ℕ}
 use lib.ListN.{replicate}
 use Rattle.plane.specs.Point.{_+ᵖ_}
 use Rattle.grids.specs.Image.{cells, valueAt}
-use Rattle.ranges.specs.Ranges.{over}
+use Rattle.ranges.specs.Ranges.{overFront}
 use Rattle.cuts.specs.Cuts.{cutOut, cutFits}
 
 -- a frame of 240 columns and rows put into its grid
@@ -14,7 +14,7 @@ put-fits-240 : cutFits 255 255 240 240 15 15 57600 65025 ≡ true
 put-fits-240 = refl
 
 -- a frame of two columns and one row put among cells of 4, and a byte past the grid
-put-4 : over 6 (cutOut 4 3 2 2 1 15 15 (1 ∷ 0 ∷ [])) (replicate 7 9) ≡ 1 ∷ 0 ∷ 4 ∷ 4 ∷ 4 ∷ 4 ∷ 9 ∷ []
+put-4 : overFront 6 (cutOut 4 3 2 2 1 15 15 (1 ∷ 0 ∷ [])) (replicate 7 9) ≡ 1 ∷ 0 ∷ 4 ∷ 4 ∷ 4 ∷ 4 ∷ 9 ∷ []
 unfolding cutOut cells valueAt _+ᵖ_
 put-4 = refl
 

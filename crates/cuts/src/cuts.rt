@@ -3,7 +3,7 @@ use super::sizes;
 ghost use mathlib.Core.Path.{_≡_};
 ghost use Prim.Native.Nat.{_+_, _*_, _≤_};
 ghost use lib.ListN.{length, getD};
-ghost use Rattle.ranges.specs.Ranges.{over, Laid, Ranged};
+ghost use Rattle.ranges.specs.Ranges.{overFront, Laid, Ranged};
 ghost use Rattle.cuts.specs.Cuts.{cutOut, Cut, Edge, shifted, seen};
 
 // How many of the first w cells stand before n when a is added to their numbers.
@@ -92,7 +92,7 @@ fn down(
     outside: u8,
 )
     requires { ⌜ (v * u ≤ length (now src)) × (w * h ≤ length (now dst)) × (w ≤ 65535) × (h ≤ 65535) × (v ≤ 65535) × (u ≤ 65535) × (a ≤ 65535) × (b ≤ 65535) ⌝ }
-    ensures { λ _. ⌜ now (dst .exit) ≡ over (w * h) (cutOut outside w h v u a b (now (src .entry))) (now (dst .entry)) ⌝ }
+    ensures { λ _. ⌜ now (dst .exit) ≡ overFront (w * h) (cutOut outside w h v u a b (now (src .entry))) (now (dst .entry)) ⌝ }
 {
     let n = edge(h, b, u + 15);
     upper(src, dst, w, n, v, u, a, b, outside);

@@ -7,7 +7,7 @@ use native.Mathlib.Omega.{arith}
 use native.Mathlib.Nat.{mul-add}
 use Rattle.plane.specs.Lists.{In}
 use Rattle.rows.specs.Cells.{Cells, Same, Sum, AtMask, AtOrigin, AtSum}
-use Rattle.edges.specs.Edges.{plusX, plusY, minusX, minusY, ahead, behind, Top, firstOf, secondOf, middleOf, timesOf, Number, summed}
+use Rattle.edges.specs.Edges.{plusX, plusY, minusX, minusY, ahead, behind, Top, firstDirection, secondDirection, middleOf, timesOf, Number, summed}
 
 -- ---- greatest values of one direction
 add-lin : (a b x y u v : ℕ) → a * (x + u) + b * (y + v) ≡ a * x + b * y + (a * u + b * v)
@@ -75,8 +75,8 @@ module _ {i : ℕ} where
     y2 = n .y2;
     x3 = n .x3;
     y3 = n .y3;
-    first = top-same (firstOf i) s (n .first);
-    second = top-same (secondOf i) s (n .second);
+    first = top-same (firstDirection i) s (n .first);
+    second = top-same (secondDirection i) s (n .second);
     middle = top-same (middleOf i) s (n .middle);
     value = n .value;
   }
@@ -84,7 +84,7 @@ module _ {i : ℕ} where
   pub number-once : {X Y : Cells} {v w : ℕ} → Same X Y → Number i X v → Number i Y w → v ≡ w
   number-once s n m =
       let e = times-both (timesOf i) _ _ _ _ (top-once (middleOf i) s (n .middle) (m .middle)) in
-      omega (arith, n .value, m .value, top-once (firstOf i) s (n .first) (m .first), top-once (secondOf i) s (n .second) (m .second))
+      omega (arith, n .value, m .value, top-once (firstDirection i) s (n .first) (m .first), top-once (secondDirection i) s (n .second) (m .second))
 
   pub number-sum : {X Y : Cells} {v w : ℕ} → Number i X v → Number i Y w → Number i (Sum X Y) (v + w)
   number-sum {X} {Y} {v} {w} n m = record {
@@ -94,12 +94,12 @@ module _ {i : ℕ} where
     y2 = n .y2 + m .y2;
     x3 = n .x3 + m .x3;
     y3 = n .y3 + m .y3;
-    first = top-sum (firstOf i) (n .first) (m .first);
-    second = top-sum (secondOf i) (n .second) (m .second);
+    first = top-sum (firstDirection i) (n .first) (m .first);
+    second = top-sum (secondDirection i) (n .second) (m .second);
     middle = top-sum (middleOf i) (n .middle) (m .middle);
     value = value-sum (timesOf i) v _ _ _ _ w _ _ _ _ _ _ _ _ (n .value) (m .value)
-        (two-sums _ _ _ _ _ _ (behind-adds (firstOf i) (n .x1) (n .y1) (m .x1) (m .y1)) (behind-adds (secondOf i) (n .x2) (n .y2) (m .x2) (m .y2)))
-        (two-sums _ _ _ _ _ _ (ahead-adds (firstOf i) (n .x1) (n .y1) (m .x1) (m .y1)) (ahead-adds (secondOf i) (n .x2) (n .y2) (m .x2) (m .y2)))
+        (two-sums _ _ _ _ _ _ (behind-adds (firstDirection i) (n .x1) (n .y1) (m .x1) (m .y1)) (behind-adds (secondDirection i) (n .x2) (n .y2) (m .x2) (m .y2)))
+        (two-sums _ _ _ _ _ _ (ahead-adds (firstDirection i) (n .x1) (n .y1) (m .x1) (m .y1)) (ahead-adds (secondDirection i) (n .x2) (n .y2) (m .x2) (m .y2)))
         (ahead-adds (middleOf i) (n .x3) (n .y3) (m .x3) (m .y3))
         (behind-adds (middleOf i) (n .x3) (n .y3) (m .x3) (m .y3));
   }
@@ -112,8 +112,8 @@ module _ {i : ℕ} where
     y2 = 0;
     x3 = 0;
     y3 = 0;
-    first = top-origin (firstOf i);
-    second = top-origin (secondOf i);
+    first = top-origin (firstDirection i);
+    second = top-origin (secondDirection i);
     middle = top-origin (middleOf i);
     value = omega arith;
   }

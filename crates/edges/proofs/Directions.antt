@@ -9,7 +9,7 @@ use lib.Dec.{T, leb, leb→le, eqb, eqb→eq}
 use Rattle.plane.specs.Lists.{all, upTo}
 use Rattle.plane.proofs.Tests.{lt-or-le}
 use Rattle.plane.proofs.Member.{each-below}
-use Rattle.edges.specs.Edges.{plusX, plusY, minusX, minusY, ahead, behind, firstOf, secondOf, middleOf, timesOf}
+use Rattle.edges.specs.Edges.{plusX, plusY, minusX, minusY, ahead, behind, firstDirection, secondDirection, middleOf, timesOf}
 
 -- ---- tests over a table
 at-most : (f : ℕ → ℕ) (b n : ℕ) → T (all (λ i. leb (f i) b) (upTo n)) → (i : ℕ) → i < n → f i ≤ b
@@ -59,25 +59,25 @@ products (a, (b, (c, (d, (f, (l, y)))))) = (mul-le-mul a l, mul-le-mul b y, mul-
 -- ---- numbers
 -- the directions of a number are among the sixteen, and the middle one is taken at most 4 times
 pub record Inside (i : ℕ) : Type 0 where
-  pub first : firstOf i ≤ 15
-  pub second : secondOf i ≤ 15
+  pub first : firstDirection i ≤ 15
+  pub second : secondDirection i ≤ 15
   pub middle : middleOf i ≤ 15
   pub times : timesOf i ≤ 4
 
 pub inside : (i : ℕ) → i < 18 → Inside i
-unfolding firstOf secondOf middleOf timesOf
-inside i l = record { first = at-most firstOf 15 18 tt i l; second = at-most secondOf 15 18 tt i l; middle = at-most middleOf 15 18 tt i l; times = at-most timesOf 4 18 tt i l }
+unfolding firstDirection secondDirection middleOf timesOf
+inside i l = record { first = at-most firstDirection 15 18 tt i l; second = at-most secondDirection 15 18 tt i l; middle = at-most middleOf 15 18 tt i l; times = at-most timesOf 4 18 tt i l }
 
 -- what two parts make with t times a third
 abbrev made : (ℕ → ℕ) → (ℕ → ℕ) → ℕ → ℕ
-made f g i = f (firstOf i) + f (secondOf i) + timesOf i * g (middleOf i)
+made f g i = f (firstDirection i) + f (secondDirection i) + timesOf i * g (middleOf i)
 
 balance-x : (i : ℕ) → i < 18 → made plusX minusX i ≡ made minusX plusX i
-unfolding plusX minusX firstOf secondOf middleOf timesOf
+unfolding plusX minusX firstDirection secondDirection middleOf timesOf
 balance-x i l = equal (made plusX minusX) (made minusX plusX) 18 tt i l
 
 balance-y : (i : ℕ) → i < 18 → made plusY minusY i ≡ made minusY plusY i
-unfolding plusY minusY firstOf secondOf middleOf timesOf
+unfolding plusY minusY firstDirection secondDirection middleOf timesOf
 balance-y i l = equal (made plusY minusY) (made minusY plusY) 18 tt i l
 
 -- parts that balance do so at every cell
@@ -85,6 +85,6 @@ balance-at : (t x y a a' a'' b b' b'' c c' c'' d d' d'' : ℕ) → a + a' + t * 
     → a * x + b * y + (a' * x + b' * y) + t * (c'' * x + d'' * y) ≡ c * x + d * y + (c' * x + d' * y) + t * (a'' * x + b'' * y)
 balance-at t x y a a' a'' b b' b'' c c' c'' d d' d'' e f = omega (arith, ap (λ (k : ℕ). k * x) e, ap (λ (k : ℕ). k * y) f)
 
-pub balance : (i : ℕ) → i < 18 → (x y : ℕ) → ahead (firstOf i) x y + ahead (secondOf i) x y + timesOf i * behind (middleOf i) x y
-    ≡ behind (firstOf i) x y + behind (secondOf i) x y + timesOf i * ahead (middleOf i) x y
+pub balance : (i : ℕ) → i < 18 → (x y : ℕ) → ahead (firstDirection i) x y + ahead (secondDirection i) x y + timesOf i * behind (middleOf i) x y
+    ≡ behind (firstDirection i) x y + behind (secondDirection i) x y + timesOf i * ahead (middleOf i) x y
 balance i l x y = balance-at (timesOf i) x y _ _ _ _ _ _ _ _ _ _ _ _ (balance-x i l) (balance-y i l)

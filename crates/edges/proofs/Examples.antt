@@ -10,7 +10,7 @@ use Rattle.plane.specs.Lists.{all, upTo}
 use Rattle.plane.proofs.Tests.{T-and}
 use Rattle.plane.proofs.Member.{each-below}
 use Rattle.rows.specs.Cells.{bit, AtMask, AtSum}
-use Rattle.edges.specs.Edges.{plusX, plusY, minusX, minusY, ahead, behind, Top, firstOf, secondOf, middleOf, timesOf, Number}
+use Rattle.edges.specs.Edges.{plusX, plusY, minusX, minusY, ahead, behind, Top, firstDirection, secondDirection, middleOf, timesOf, Number}
 use Rattle.edges.specs.Numbers.{FirstIn, FirstFound}
 use Rattle.edges.proofs.Adding.{number-sum, number-origin}
 use Rattle.edges.proofs.Directions.{inside}
@@ -55,20 +55,20 @@ behindMost i = behind i (cornerX i) (cornerY i)
 
 -- a number is that of its three directions, each at its corner
 by-corners : ℕ → Bool
-by-corners i = eqb (fullNumber i + (behindMost (firstOf i) + behindMost (secondOf i) + timesOf i * aheadMost (middleOf i)))
-    (aheadMost (firstOf i) + aheadMost (secondOf i) + timesOf i * behindMost (middleOf i))
+by-corners i = eqb (fullNumber i + (behindMost (firstDirection i) + behindMost (secondDirection i) + timesOf i * aheadMost (middleOf i)))
+    (aheadMost (firstDirection i) + aheadMost (secondDirection i) + timesOf i * behindMost (middleOf i))
 
 full : (i : ℕ) → i < 18 → Number i (AtMask 511) (fullNumber i)
-unfolding plusX plusY minusX minusY firstOf secondOf middleOf timesOf cornerX cornerY fullNumber by-corners
+unfolding plusX plusY minusX minusY firstDirection secondDirection middleOf timesOf cornerX cornerY fullNumber by-corners
 full i l = record {
-  x1 = cornerX (firstOf i);
-  y1 = cornerY (firstOf i);
-  x2 = cornerX (secondOf i);
-  y2 = cornerY (secondOf i);
+  x1 = cornerX (firstDirection i);
+  y1 = cornerY (firstDirection i);
+  x2 = cornerX (secondDirection i);
+  y2 = cornerY (secondDirection i);
   x3 = cornerX (middleOf i);
   y3 = cornerY (middleOf i);
-  first = top (firstOf i) (omega (arith, inside i l .first));
-  second = top (secondOf i) (omega (arith, inside i l .second));
+  first = top (firstDirection i) (omega (arith, inside i l .first));
+  second = top (secondDirection i) (omega (arith, inside i l .second));
   middle = top (middleOf i) (omega (arith, inside i l .middle));
   value = eqb→eq _ _ (each-below by-corners 18 tt i l);
 }

@@ -10,7 +10,7 @@ use lib.ListN.{getD, replicate}
 use Rattle.rows.specs.Cells.{At, Same, bit}
 use Rattle.rows.proofs.RowBits.{no-bit}
 use Rattle.rows.proofs.Sums.{Rows16, in-x, in-y, last-or, zero-at}
-use Rattle.edges.specs.Edges.{plusX, minusX, ahead, behind, Top, firstOf, secondOf, middleOf, timesOf, Number}
+use Rattle.edges.specs.Edges.{plusX, minusX, ahead, behind, Top, firstDirection, secondDirection, middleOf, timesOf, Number}
 use Rattle.edges.specs.Numbers.{FirstIn, LastIn, Greater, Supported, Attained, Clipped, Topped, RowTopped, Fits, Front, Numbered}
 use Rattle.edges.proofs.Adding.{number-same}
 use Rattle.edges.proofs.Directions.{ahead-small, behind-small, one-way, inside, balance}
@@ -115,29 +115,29 @@ module _ (cells : List ℕ) (w : Rows16 cells) (n : ℕ) (s : List ℕ) (tops : 
       omega (arith, a .at, ahead-small i (a .x) (a .y) l (in-x cells w (a .x) (a .y) (a .cell)) (in-y cells w (a .x) (a .y) (a .cell)))
 
   module _ (i : ℕ) (l : i < 18) where
-    first-in : firstOf i < 16
+    first-in : firstDirection i < 16
     first-in = omega (arith, inside i l .first)
 
-    second-in : secondOf i < 16
+    second-in : secondDirection i < 16
     second-in = omega (arith, inside i l .second)
 
     middle-in : middleOf i < 16
     middle-in = omega (arith, inside i l .middle)
 
-    pub fits : Fits (getD s (firstOf i) 0) (getD s (secondOf i) 0) (getD s (middleOf i) 0) (timesOf i)
+    pub fits : Fits (getD s (firstDirection i) 0) (getD s (secondDirection i) 0) (getD s (middleOf i) 0) (timesOf i)
     fits =
-        let a = attained (firstOf i) first-in in
+        let a = attained (firstDirection i) first-in in
         let c = attained (middleOf i) middle-in in
         record {
-          first = small-top (firstOf i) first-in;
-          second = small-top (secondOf i) second-in;
+          first = small-top (firstDirection i) first-in;
+          second = small-top (secondDirection i) second-in;
           middle = small-top (middleOf i) middle-in;
           times = inside i l .times;
-          low = low-of (timesOf i) _ _ _ _ _ _ _ _ _ (balance i l (c .x) (c .y)) (tops (firstOf i) first-in .all (c .x) (c .y) (c .cell) (c .before))
-              (tops (secondOf i) second-in .all (c .x) (c .y) (c .cell) (c .before)) (c .at);
+          low = low-of (timesOf i) _ _ _ _ _ _ _ _ _ (balance i l (c .x) (c .y)) (tops (firstDirection i) first-in .all (c .x) (c .y) (c .cell) (c .before))
+              (tops (secondDirection i) second-in .all (c .x) (c .y) (c .cell) (c .before)) (c .at);
           high = high-of (timesOf i) _ _ _ _ _ _ _ _ _ (balance i l (a .x) (a .y)) (a .at)
-              (behind-small (secondOf i) (a .x) (a .y) second-in (in-x cells w (a .x) (a .y) (a .cell)) (in-y cells w (a .x) (a .y) (a .cell)))
-              (small-top (secondOf i) second-in) (tops (middleOf i) middle-in .all (a .x) (a .y) (a .cell) (a .before));
+              (behind-small (secondDirection i) (a .x) (a .y) second-in (in-x cells w (a .x) (a .y) (a .cell)) (in-y cells w (a .x) (a .y) (a .cell)))
+              (small-top (secondDirection i) second-in) (tops (middleOf i) middle-in .all (a .x) (a .y) (a .cell) (a .before));
         }
 
   top-of : (i : ℕ) (l : i < 16) → Top i (Front cells n) (attained i l .x) (attained i l .y)
@@ -147,10 +147,10 @@ module _ (cells : List ℕ) (w : Rows16 cells) (n : ℕ) (s : List ℕ) (tops : 
   }
 
   pub number-of : (i : ℕ) → i < 18 → (v : ℕ)
-      → v + (timesOf i * getD s (middleOf i) 0 + 128) ≡ getD s (firstOf i) 0 + getD s (secondOf i) 0 + timesOf i * 64 → Number i (Front cells n) v
+      → v + (timesOf i * getD s (middleOf i) 0 + 128) ≡ getD s (firstDirection i) 0 + getD s (secondDirection i) 0 + timesOf i * 64 → Number i (Front cells n) v
   number-of i l v e =
-      let a = attained (firstOf i) (first-in i l) in
-      let b = attained (secondOf i) (second-in i l) in
+      let a = attained (firstDirection i) (first-in i l) in
+      let b = attained (secondDirection i) (second-in i l) in
       let c = attained (middleOf i) (middle-in i l) in
       record {
         x1 = a .x;
@@ -159,8 +159,8 @@ module _ (cells : List ℕ) (w : Rows16 cells) (n : ℕ) (s : List ℕ) (tops : 
         y2 = b .y;
         x3 = c .x;
         y3 = c .y;
-        first = top-of (firstOf i) (first-in i l);
-        second = top-of (secondOf i) (second-in i l);
+        first = top-of (firstDirection i) (first-in i l);
+        second = top-of (secondDirection i) (second-in i l);
         middle = top-of (middleOf i) (middle-in i l);
         value = value-of (timesOf i) _ _ _ _ _ _ _ _ _ v (a .at) (b .at) (c .at) e;
       }
@@ -181,7 +181,7 @@ module _ (cells : List ℕ) (w : Rows16 cells) (n k : ℕ) (c : Clipped n k) (s 
   }
 
   pub numbered-all : (getD s 0 0 ≡ 0 → ⊥) → (r : List ℕ)
-      → ((i : ℕ) → i < 18 → getD r i 0 + (timesOf i * getD s (middleOf i) 0 + 128) ≡ getD s (firstOf i) 0 + getD s (secondOf i) 0 + timesOf i * 64) → Numbered cells n r
+      → ((i : ℕ) → i < 18 → getD r i 0 + (timesOf i * getD s (middleOf i) 0 + 128) ≡ getD s (firstDirection i) 0 + getD s (secondDirection i) 0 + timesOf i * 64) → Numbered cells n r
   numbered-all some r e = record {
     number = λ x y f i l. number-same clips (number-of cells w k s tops some i l (getD r i 0) (e i l));
     none = λ f.

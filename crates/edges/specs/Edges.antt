@@ -37,12 +37,12 @@ pub record Top (i : ℕ) (X : Cells) (x y : ℕ) : Type 0 where
   pub above : (u v : ℕ) → X u v → ahead i u v + behind i x y ≤ ahead i x y + behind i u v
 
 -- the direction before the one that number i is of; of the width and the height, one of the two opposite directions
-unfoldable pub firstOf : ℕ → ℕ
-firstOf i = getD (15 ∷ 0 ∷ 1 ∷ 2 ∷ 3 ∷ 4 ∷ 5 ∷ 6 ∷ 7 ∷ 8 ∷ 9 ∷ 10 ∷ 11 ∷ 12 ∷ 13 ∷ 14 ∷ 0 ∷ 4 ∷ []) i 0
+unfoldable pub firstDirection : ℕ → ℕ
+firstDirection i = getD (15 ∷ 0 ∷ 1 ∷ 2 ∷ 3 ∷ 4 ∷ 5 ∷ 6 ∷ 7 ∷ 8 ∷ 9 ∷ 10 ∷ 11 ∷ 12 ∷ 13 ∷ 14 ∷ 0 ∷ 4 ∷ []) i 0
 
 -- the direction after the one that number i is of; of the width and the height, the other of the two
-unfoldable pub secondOf : ℕ → ℕ
-secondOf i = getD (1 ∷ 2 ∷ 3 ∷ 4 ∷ 5 ∷ 6 ∷ 7 ∷ 8 ∷ 9 ∷ 10 ∷ 11 ∷ 12 ∷ 13 ∷ 14 ∷ 15 ∷ 0 ∷ 8 ∷ 12 ∷ []) i 0
+unfoldable pub secondDirection : ℕ → ℕ
+secondDirection i = getD (1 ∷ 2 ∷ 3 ∷ 4 ∷ 5 ∷ 6 ∷ 7 ∷ 8 ∷ 9 ∷ 10 ∷ 11 ∷ 12 ∷ 13 ∷ 14 ∷ 15 ∷ 0 ∷ 8 ∷ 12 ∷ []) i 0
 
 -- the direction that number i is of; of the width and the height, which have none, any
 unfoldable pub middleOf : ℕ → ℕ
@@ -60,11 +60,11 @@ pub record Number (i : ℕ) (X : Cells) (v : ℕ) : Type 0 where
   pub y2 : ℕ
   pub x3 : ℕ
   pub y3 : ℕ
-  pub first : Top (firstOf i) X x1 y1
-  pub second : Top (secondOf i) X x2 y2
+  pub first : Top (firstDirection i) X x1 y1
+  pub second : Top (secondDirection i) X x2 y2
   pub middle : Top (middleOf i) X x3 y3
-  pub value : v + (behind (firstOf i) x1 y1 + behind (secondOf i) x2 y2 + timesOf i * ahead (middleOf i) x3 y3)
-      ≡ ahead (firstOf i) x1 y1 + ahead (secondOf i) x2 y2 + timesOf i * behind (middleOf i) x3 y3
+  pub value : v + (behind (firstDirection i) x1 y1 + behind (secondDirection i) x2 y2 + timesOf i * ahead (middleOf i) x3 y3)
+      ≡ ahead (firstDirection i) x1 y1 + ahead (secondDirection i) x2 y2 + timesOf i * behind (middleOf i) x3 y3
 
 -- the sum of f over a list
 abbrev pub summed : (ℕ → ℕ) → List ℕ → ℕ

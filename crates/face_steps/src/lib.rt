@@ -6,7 +6,8 @@ ghost use mathlib.Core.Bool.{true, false};
 ghost use Prim.Native.Nat.{ℕ, _<_};
 ghost use lib.ListN.{getD};
 ghost use Rattle.rows.specs.Cells.{At};
-ghost use Rattle.faces.specs.Faces.{row, Shadow, Spaced, Fair, FairFaces, NeverSum};
+ghost use Rattle.faces.specs.Faces.{Shadow, Spaced, Fair, FairFaces, NeverSum};
+ghost use Rattle.extents.specs.Extents.{row};
 ghost use Rattle.faces.specs.Bits.{Bits, Indicated, Ends, Two, Lone, Mark, Marked, RowAt, AllFair, Unfair};
 
 // The one step that the rows of a face can have in each direction; 0 where 1 and 2 both can.

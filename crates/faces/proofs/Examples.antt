@@ -9,7 +9,8 @@ use Rattle.rows.specs.Cells.{At, bit}
 use Rattle.rows.proofs.RowBits.{bit-in, no-bit}
 use Rattle.edges.specs.Edges.{plusX, plusY, minusX, minusY}
 use Rattle.faces.specs.Bits.{Bits, OnRow}
-use Rattle.faces.specs.Faces.{column, Shadow, Spaced, onlyOf, Fair, NeverSum}
+use Rattle.faces.specs.Faces.{Shadow, Spaced, onlyOf, Fair, NeverSum}
+use Rattle.extents.specs.Extents.{column}
 use Rattle.faces.proofs.Shadows.{no-columns}
 
 -- the numbers of a set below n that is spaced by 2 are all even or all odd

@@ -16,7 +16,8 @@ use Rattle.edges.specs.Numbers.{Topped, RowTopped}
 use Rattle.edges.proofs.Directions.{behind-small}
 use Rattle.edges.proofs.Adding.{top-once}
 use Rattle.rows.proofs.Addition.{same-refl}
-use Rattle.faces.specs.Faces.{row, column, Shadow, Fair}
+use Rattle.faces.specs.Faces.{Shadow, Fair}
+use Rattle.extents.specs.Extents.{row, column}
 use Rattle.faces.proofs.Shadows.{fair-same}
 use Rattle.faces.specs.Bits.{Bits, Indicated, Mark, Marked, OnRow, RowsTo, RowAt}
 

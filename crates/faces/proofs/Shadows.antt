@@ -13,7 +13,8 @@ use Rattle.rows.specs.Cells.{Cells, Same, Sum, AtMask, AtOrigin, AtSum}
 use Rattle.rows.proofs.Addition.{same-refl, same-sym, add-cells}
 use Rattle.edges.specs.Edges.{plusX, plusY, minusX, minusY, ahead, behind, Top}
 use Rattle.edges.proofs.Adding.{ahead-adds, behind-adds, top-same, top-once, top-sum}
-use Rattle.faces.specs.Faces.{row, column, Shadow, Spaced, onlyOf, Fair, NeverSum}
+use Rattle.faces.specs.Faces.{Shadow, Spaced, onlyOf, Fair, NeverSum}
+use Rattle.extents.specs.Extents.{row, column}
 use Rattle.faces.proofs.Spacing.{Plus, Kind, spaced-same, kind-same, spaced-plus, kind-plus, kind-of-three}
 
 -- ---- faces of a sum

@@ -8,14 +8,7 @@ use Prim.Native.Nat.{ℕ, _+_, _<_}
 use lib.ListN.{getD}
 use Rattle.rows.specs.Cells.{Cells, Same, AtSum}
 use Rattle.edges.specs.Edges.{Top}
-
--- the row of a cell
-abbrev pub row : ℕ → ℕ → ℕ
-row x y = y
-
--- the column of a cell
-abbrev pub column : ℕ → ℕ → ℕ
-column x y = x
+use Rattle.extents.specs.Extents.{row, column}
 
 -- k is the number, row or column, of a cell where direction i has its greatest value on X
 pub record Shadow (number : ℕ → ℕ → ℕ) (i : ℕ) (X : Cells) (k : ℕ) : Type 0 where

@@ -21,7 +21,7 @@ use Rattle.grids.proofs.Stage.{bytes-binary, once-size}
 use Rattle.frame_grounds.proofs.Sides.{sides}
 use Rattle.cuts.specs.Cuts.{cutOut, cutFits, Cut}
 use Rattle.cuts.proofs.OnGrids.{put-is-cut, cut-whole}
-use Rattle.ranges.specs.Ranges.{over}
+use Rattle.ranges.specs.Ranges.{overFront}
 use Rattle.planes.specs.Planes.{byteRows, planeSize, Shows, packFits, FramePacked, stageFits, PlaneTaken, planeCells, unpackFits}
 use Rattle.planes.proofs.OnGrids.{low-view, after-once, plane-fits, kept-drop, grid-pack, grid-stage, grid-unpack, shown-cut}
 use Rattle.frame_calls.specs.Staging.{StageReady}
@@ -116,5 +116,5 @@ module _ (erode : Bool) (W H m : ℕ) {g i : List ℕ} (r : StageReady W H g i) 
       whole : cutOut free C R C R 15 15 (planeCells C R p) ≡ after
       whole = shown-cut free C R after p shown C R 15 15 ∙ cut-whole free C R after (once-size erode free W H m g)
 
-      pub stage-written : {i₂ : List ℕ} → i₂ ≡ over (C * R) (cutOut free C R C R 15 15 (planeCells C R p)) i₁ → i₂ ≡ written W H after i
+      pub stage-written : {i₂ : List ℕ} → i₂ ≡ overFront (C * R) (cutOut free C R C R 15 15 (planeCells C R p)) i₁ → i₂ ≡ written W H after i
       stage-written e = e ∙ ap (λ l. l ++ drop (gridSize W H) i₁) whole ∙ ap (λ l. after ++ l) (kept-drop W H (a .kept))

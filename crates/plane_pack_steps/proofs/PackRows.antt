@@ -17,7 +17,7 @@ use Rattle.ranges.specs.Ranges.{Ranged}
 use Rattle.ranges.proofs.FlatRows.{rows-apart}
 use Rattle.ranges.proofs.Sizing.{product-le}
 use Rattle.ranges.proofs.Values.{value-in}
-use Rattle.planes.specs.Planes.{byteRows, planeSize, seen, Shows, lowBits}
+use Rattle.planes.specs.Planes.{byteRows, planeSize, bitSeen, Shows, lowBits}
 use Rattle.planes.proofs.WholeBytes.{one-value}
 use Rattle.planes.proofs.Views.{in-both, out-above, out-side, out-under}
 use Rattle.planes.proofs.OnGrids.{low-at, low-size}
@@ -30,12 +30,12 @@ framed v W H f x y = view v W H (lowBits f) (pos x -ℤ pos 2, pos y -ℤ pos 8)
 
 -- the plane d shows the frame in the rows below y, and v from there on
 pub record Until (v W H C R y : ℕ) (f d : List ℕ) : Type 0 where
-  pub at : (x z : ℕ) → x < C + 4 → z < byteRows R * 8 + 16 → seen (C + 2) d x z ≡ cond (ltb z (y + 8)) (framed v W H f x z) v
+  pub at : (x z : ℕ) → x < C + 4 → z < byteRows R * 8 + 16 → bitSeen (C + 2) d x z ≡ cond (ltb z (y + 8)) (framed v W H f x z) v
 
 module _ (v W H C R : ℕ) (f : List ℕ) where
   -- a plane of one value
   pub until-none : {d d′ : List ℕ} → v ≤ 1 → Ranged 0 0 (byteRows R * (C + 2) + 2 * (C + 2) + 2) (λ _. v * 255) d d′ → Until v W H C R 0 f d′
-  unfolding seen
+  unfolding bitSeen
   until-none {d′ = d′} hv r = record {
     at = λ x z lx lz.
         let a : z / 8 * (C + 2) ≤ (byteRows R + 1) * (C + 2) = mul-le-mul-right (C + 2) (omega arith) in
@@ -57,8 +57,8 @@ module _ (v W H C R : ℕ) (f : List ℕ) where
   }
 
 -- a byte that is the same shows the same
-same-seen : (s : ℕ) (d d′ : List ℕ) (x z : ℕ) → getD d′ (z / 8 * s + x) 0 ≡ getD d (z / 8 * s + x) 0 → seen s d′ x z ≡ seen s d x z
-unfolding seen
+same-seen : (s : ℕ) (d d′ : List ℕ) (x z : ℕ) → getD d′ (z / 8 * s + x) 0 ≡ getD d (z / 8 * s + x) 0 → bitSeen s d′ x z ≡ bitSeen s d x z
+unfolding bitSeen
 same-seen s d d′ x z e = ap (λ (n : ℕ). bit n (z % 8)) e
 
 -- one group more
@@ -70,18 +70,18 @@ module _ (v W H C R y p q : ℕ) (f d d′ : List ℕ) (hv : v ≤ 1) (hw : W �
 
   module _ (x z : ℕ) (lx : x < C + 4) (lz : z < byteRows R * 8 + 16) where
     -- a byte before or after the group is as it was
-    before : z / 8 * (C + 2) + x < p → seen (C + 2) d′ x z ≡ cond (ltb z (y + 8)) (framed v W H f x z) v
+    before : z / 8 * (C + 2) + x < p → bitSeen (C + 2) d′ x z ≡ cond (ltb z (y + 8)) (framed v W H f x z) v
     before l = same-seen (C + 2) d d′ x z (b .below (z / 8 * (C + 2) + x) l) ∙ u .at x z lx lz
 
-    after : p + W ≤ z / 8 * (C + 2) + x → seen (C + 2) d′ x z ≡ cond (ltb z (y + 8)) (framed v W H f x z) v
+    after : p + W ≤ z / 8 * (C + 2) + x → bitSeen (C + 2) d′ x z ≡ cond (ltb z (y + 8)) (framed v W H f x z) v
     after l = same-seen (C + 2) d d′ x z (b .above (z / 8 * (C + 2) + x) l) ∙ u .at x z lx lz
 
-    above-rows : z < y + 8 → seen (C + 2) d′ x z ≡ cond (ltb z (y + 8 + 8)) (framed v W H f x z) v
+    above-rows : z < y + 8 → bitSeen (C + 2) d′ x z ≡ cond (ltb z (y + 8 + 8)) (framed v W H f x z) v
     above-rows l =
         let a = rows-apart (C + 2) (z / 8) (y / 8 + 1) (omega arith) in
         before (omega arith) ∙ rw (lt-ltb z (y + 8) l, lt-ltb z (y + 8 + 8) (omega arith))
 
-    below-rows : y + 8 + 8 ≤ z → seen (C + 2) d′ x z ≡ cond (ltb z (y + 8 + 8)) (framed v W H f x z) v
+    below-rows : y + 8 + 8 ≤ z → bitSeen (C + 2) d′ x z ≡ cond (ltb z (y + 8 + 8)) (framed v W H f x z) v
     below-rows l =
         let a = rows-apart (C + 2) (y / 8 + 1) (z / 8) (omega arith) in
         after (omega arith) ∙ rw (le-ltb z (y + 8) (omega arith), le-ltb z (y + 8 + 8) l)
@@ -90,10 +90,10 @@ module _ (v W H C R y p q : ℕ) (f d d′ : List ℕ) (hv : v ≤ 1) (hw : W �
       row : z / 8 * (C + 2) ≡ (y / 8 + 1) * (C + 2)
       row = let e : z / 8 ≡ y / 8 + 1 = omega arith in ap (λ (n : ℕ). n * (C + 2)) e
 
-      beside : (2 ≤ x → x < W + 2 → ⊥) → seen (C + 2) d′ x z ≡ cond (ltb z (y + 8 + 8)) (framed v W H f x z) v
+      beside : (2 ≤ x → x < W + 2 → ⊥) → bitSeen (C + 2) d′ x z ≡ cond (ltb z (y + 8 + 8)) (framed v W H f x z) v
       beside n = was ∙ rw (le-ltb z (y + 8) lo, lt-ltb z (y + 8 + 8) hi) (sym (out-side v W H (lowBits f) x z (omega arith) n))
         where
-          was : seen (C + 2) d′ x z ≡ cond (ltb z (y + 8)) (framed v W H f x z) v
+          was : bitSeen (C + 2) d′ x z ≡ cond (ltb z (y + 8)) (framed v W H f x z) v
           was = ⊎-elim
               (λ (w : x < 2). before (omega (arith, row)))
               (λ (w : 2 ≤ x). ⊎-elim (λ (w' : x < W + 2). absurd (n w w')) (λ (w' : W + 2 ≤ x). after (omega (arith, row))) (lt-or-le x (W + 2)))
@@ -118,17 +118,17 @@ module _ (v W H C R y p q : ℕ) (f d d′ : List ℕ) (hv : v ≤ 1) (hw : W �
             (λ (l : r ≤ z % 8). rw (le-ltb (z % 8) r l) (one-value v (z % 8 - r) hv (omega arith) ∙ sym (out-under v W H (lowBits f) x z (omega arith))))
             (lt-or-le (z % 8) r)
 
-        inside : seen (C + 2) d′ x z ≡ cond (ltb z (y + 8 + 8)) (framed v W H f x z) v
-        unfolding seen
+        inside : bitSeen (C + 2) d′ x z ≡ cond (ltb z (y + 8 + 8)) (framed v W H f x z) v
+        unfolding bitSeen
         inside = ap (λ (n : ℕ). bit (getD d′ n 0) (z % 8)) index ∙ b .at (x - 2) (z % 8) (omega arith) (omega arith) ∙ grouped ∙ rw (lt-ltb z (y + 8 + 8) hi)
 
-    group-row : (lo : y + 8 ≤ z) → (hi : z < y + 8 + 8) → seen (C + 2) d′ x z ≡ cond (ltb z (y + 8 + 8)) (framed v W H f x z) v
+    group-row : (lo : y + 8 ≤ z) → (hi : z < y + 8 + 8) → bitSeen (C + 2) d′ x z ≡ cond (ltb z (y + 8 + 8)) (framed v W H f x z) v
     group-row lo hi = ⊎-elim
         (λ (w : x < 2). beside lo hi (λ a c. omega arith))
         (λ (w : 2 ≤ x). ⊎-elim (λ (w' : x < W + 2). inside lo hi w w') (λ (w' : W + 2 ≤ x). beside lo hi (λ a c. omega arith)) (lt-or-le x (W + 2)))
         (lt-or-le x 2)
 
-    one-more : seen (C + 2) d′ x z ≡ cond (ltb z (y + 8 + 8)) (framed v W H f x z) v
+    one-more : bitSeen (C + 2) d′ x z ≡ cond (ltb z (y + 8 + 8)) (framed v W H f x z) v
     one-more = ⊎-elim
         (λ (l : z < y + 8). above-rows l)
         (λ (l : y + 8 ≤ z). ⊎-elim (λ (k : z < y + 8 + 8). group-row l k) (λ (k : y + 8 + 8 ≤ z). below-rows k) (lt-or-le z (y + 8 + 8)))

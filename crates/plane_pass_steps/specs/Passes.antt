@@ -23,9 +23,9 @@ liftOf true j = 8 - j
 liftOf false j = j
 
 -- the mask's row that is read: 2, or 1
-abbrev pub rowOf : Bool → ℕ
-rowOf true = 2
-rowOf false = 1
+abbrev pub maskRowOf : Bool → ℕ
+maskRowOf true = 2
+maskRowOf false = 1
 
 -- of m bytes, those that stand x, y and z on, and c more, are there for each of n bytes
 abbrev pub readsFit : ℕ → ℕ → ℕ → ℕ → ℕ → ℕ → Bool
@@ -51,4 +51,4 @@ PassLevelled erode s x y z d r d′ = Fitted (readsFit (length d) (length s) 0 x
 
 -- a mask's row 2, or 1: each byte of d was joined with the pick of three that are raised
 abbrev pub PassRaised : Bool → Bool → List ℕ → ℕ → ℕ → ℕ → ℕ → List ℕ → Bool → List ℕ → Type 0
-PassRaised erode second s c x y z d r d′ = Fitted (readsFit (length d) (length s) c x y z) (Bitted 0 (length d) (joinedBit erode d s c x y z (liftOf erode (rowOf second))) d d′) d r d′
+PassRaised erode second s c x y z d r d′ = Fitted (readsFit (length d) (length s) c x y z) (Bitted 0 (length d) (joinedBit erode d s c x y z (liftOf erode (maskRowOf second))) d d′) d r d′

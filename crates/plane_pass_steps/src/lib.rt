@@ -6,7 +6,7 @@ mod passes;
 ghost use mathlib.Core.Path.{_≡_};
 ghost use Prim.Native.Nat.{_+_, _<_};
 ghost use lib.Dec.{leb};
-ghost use Rattle.plane_pass_steps.specs.Passes.{readsFit, liftOf, rowOf, PassLevelled, PassRaised};
+ghost use Rattle.plane_pass_steps.specs.Passes.{readsFit, liftOf, maskRowOf, PassLevelled, PassRaised};
 
 // Whether n bytes from x on are among m.
 fn room(n: usize, m: usize, x: usize) -> bool
@@ -36,7 +36,7 @@ fn reads_fit(n: usize, m: usize, c: usize, x: usize, y: usize, z: usize) -> bool
 
 // By how many bits bytes are raised for the mask's row 2, or 1.
 fn lift(second: bool, erode: bool) -> u32
-    ensures { λ r. ⌜ (r ≡ liftOf erode (rowOf second)) × (0 < r) × (r < 8) ⌝ }
+    ensures { λ r. ⌜ (r ≡ liftOf erode (maskRowOf second)) × (0 < r) × (r < 8) ⌝ }
 {
     if erode {
         if second {

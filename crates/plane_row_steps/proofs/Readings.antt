@@ -14,14 +14,14 @@ use Rattle.rows.specs.Cells.{bit}
 use Rattle.grids.specs.Frame.{pickOf, seedOf}
 use Rattle.planes.specs.MaskBits.{overBits}
 use Rattle.planes.specs.Bytes.{Bitted}
-use Rattle.planes.specs.Planes.{seen}
+use Rattle.planes.specs.Planes.{bitSeen}
 use Rattle.plane_pass_steps.specs.Passes.{liftedBit, liftOf}
 use Rattle.plane_row_steps.specs.MaskRows.{firstBit, nextBit, acrossOf, stepOf, ofColumns, Rowed}
 use Rattle.plane_row_steps.proofs.MaskColumns.{nine-bits, columns-ap}
 
 -- a bit of a byte is the cell that stands there
-at-cell : (s : ℕ) (p : List ℕ) (x y n q : ℕ) → n ≡ y / 8 * s + x → q ≡ y % 8 → bit (getD p n 0) q ≡ seen s p x y
-unfolding seen
+at-cell : (s : ℕ) (p : List ℕ) (x y n q : ℕ) → n ≡ y / 8 * s + x → q ≡ y % 8 → bit (getD p n 0) q ≡ bitSeen s p x y
+unfolding bitSeen
 at-cell s p x y n q e f = rw (e, f)
 
 module _ (s : ℕ) (p : List ℕ) (x y : ℕ) where
@@ -33,12 +33,12 @@ module _ (s : ℕ) (p : List ℕ) (x y : ℕ) where
     row-before : y / 8 * s ≡ (y / 8 - 1) * s + s
     row-before = let e : y / 8 - 1 + 1 ≡ y / 8 = omega arith in omega (arith, ap (λ (n : ℕ). n * s) e, add-mul (y / 8 - 1) 1 s)
 
-    back : (i : ℕ) → i ≤ 2 → bit (getD p (from + (s + (2 - i))) 0) (y % 8) ≡ seen s p (x - i) (y - 0)
+    back : (i : ℕ) → i ≤ 2 → bit (getD p (from + (s + (2 - i))) 0) (y % 8) ≡ bitSeen s p (x - i) (y - 0)
     back i l =
         let e : (y - 0) / 8 ≡ y / 8 = omega arith in
         at-cell s p (x - i) (y - 0) (from + (s + (2 - i))) (y % 8) (omega (arith, row-before, ap (λ (n : ℕ). n * s) e)) (omega arith)
 
-    back-up : (i j : ℕ) → i ≤ 2 → 0 < j → j ≤ 2 → liftedBit p s j (from + (0 + (2 - i))) (y % 8) ≡ seen s p (x - i) (y - j)
+    back-up : (i j : ℕ) → i ≤ 2 → 0 < j → j ≤ 2 → liftedBit p s j (from + (0 + (2 - i))) (y % 8) ≡ bitSeen s p (x - i) (y - j)
     back-up i j l lo hi = ⊎-elim
         (λ (u : y % 8 < j).
         let e : (y - j) / 8 ≡ y / 8 - 1 = omega arith in
@@ -48,12 +48,12 @@ module _ (s : ℕ) (p : List ℕ) (x y : ℕ) where
         rw (le-leb j (y % 8) u) (at-cell s p (x - i) (y - j) (from + (0 + (2 - i)) + s) (y % 8 - j) (omega (arith, row-before, ap (λ (n : ℕ). n * s) e)) (omega arith)))
         (lt-or-le (y % 8) j)
 
-    ahead : (i : ℕ) → bit (getD p (from + (s + 2 + i)) 0) (y % 8) ≡ seen s p (x + i) (y + 0)
+    ahead : (i : ℕ) → bit (getD p (from + (s + 2 + i)) 0) (y % 8) ≡ bitSeen s p (x + i) (y + 0)
     ahead i =
         let e : (y + 0) / 8 ≡ y / 8 = omega arith in
         at-cell s p (x + i) (y + 0) (from + (s + 2 + i)) (y % 8) (omega (arith, row-before, ap (λ (n : ℕ). n * s) e)) (omega arith)
 
-    ahead-up : (i j : ℕ) → 0 < j → j ≤ 2 → liftedBit p s (8 - j) (from + (s + 2 + i)) (y % 8) ≡ seen s p (x + i) (y + j)
+    ahead-up : (i j : ℕ) → 0 < j → j ≤ 2 → liftedBit p s (8 - j) (from + (s + 2 + i)) (y % 8) ≡ bitSeen s p (x + i) (y + j)
     ahead-up i j lo hi = ⊎-elim
         (λ (u : y % 8 < 8 - j).
         let e : (y + j) / 8 ≡ y / 8 = omega arith in
@@ -80,7 +80,7 @@ module _ (s m : ℕ) (p : List ℕ) {d d₁ d₂ d₃ : List ℕ} where
         let k = y / 8 * s + x - (s + 2) in
         let q = y % 8 in
         let lk : k < length d = omega (arith, row-before s p x y h g) in
-        three-rows (pickOf false) (seedOf false) m (λ b. seen s p (stepOf false x (b % 3)) (stepOf false y (b / 3)))
+        three-rows (pickOf false) (seedOf false) m (λ b. bitSeen s p (stepOf false x (b % 3)) (stepOf false y (b / 3)))
         (λ i. bit (getD p (k + (s + acrossOf false i)) 0) q) (λ i. liftedBit p s (liftOf false 1) (k + (0 + acrossOf false i)) q) (λ i. liftedBit p s (liftOf false 2) (k + (0 + acrossOf false i)) q)
         (bit (getD d₁ k 0) q) (bit (getD d₂ k 0) q) (bit (getD d₃ k 0) q)
         (a .at k q (omega arith) lk (omega arith)) (b .at k q (omega arith) (omega (arith, a .len)) (omega arith)) (c .at k q (omega arith) (omega (arith, b .len, a .len)) (omega arith))
@@ -96,7 +96,7 @@ module _ (s m : ℕ) (p : List ℕ) {d d₁ d₂ d₃ : List ℕ} where
         let k = y / 8 * s + x - (s + 2) in
         let q = y % 8 in
         let lk : k < length d = omega (arith, row-before s p x y h g) in
-        three-rows (pickOf true) (seedOf true) m (λ b. seen s p (stepOf true x (b % 3)) (stepOf true y (b / 3)))
+        three-rows (pickOf true) (seedOf true) m (λ b. bitSeen s p (stepOf true x (b % 3)) (stepOf true y (b / 3)))
         (λ i. bit (getD p (k + (s + 2 + acrossOf true i)) 0) q) (λ i. liftedBit p s (liftOf true 1) (k + (s + 2 + acrossOf true i)) q) (λ i. liftedBit p s (liftOf true 2) (k + (s + 2 + acrossOf true i)) q)
         (bit (getD d₁ k 0) q) (bit (getD d₂ k 0) q) (bit (getD d₃ k 0) q)
         (a .at k q (omega arith) lk (omega arith)) (b .at k q (omega arith) (omega (arith, a .len)) (omega arith)) (c .at k q (omega arith) (omega (arith, b .len, a .len)) (omega arith))

@@ -9,7 +9,7 @@ use Rattle.rows.specs.Cells.{bit}
 use Rattle.grids.specs.Frame.{pickOf, seedOf}
 use Rattle.ranges.specs.Ranges.{Fitted}
 use Rattle.planes.specs.MaskBits.{hasBit, overBits}
-use Rattle.planes.specs.Planes.{seen}
+use Rattle.planes.specs.Planes.{bitSeen}
 use Rattle.plane_pass_steps.specs.Passes.{liftedBit, liftOf}
 
 -- ---- a row of a mask: its three bits from s on, of which bit s + i is column i
@@ -58,7 +58,7 @@ stepOf false x i = x - i
 pub record Rowed (erode : Bool) (s m : ℕ) (p d d′ : List ℕ) : Type 0 where
   pub len : length d′ ≡ length d
   pub at : (x y : ℕ) → 2 ≤ x → 8 ≤ y → y / 8 * s + x < s + 2 + length d
-      → bit (getD d′ (y / 8 * s + x - (s + 2)) 0) (y % 8) ≡ overBits (pickOf erode) (seedOf erode) (λ b. seen s p (stepOf erode x (b % 3)) (stepOf erode y (b / 3))) m 9
+      → bit (getD d′ (y / 8 * s + x - (s + 2)) 0) (y % 8) ≡ overBits (pickOf erode) (seedOf erode) (λ b. bitSeen s p (stepOf erode x (b % 3)) (stepOf erode y (b / 3))) m 9
 
 -- around n bytes of a plane in m bytes, s of them a row, a row and two bytes more are there on either side
 abbrev pub rowsFit : ℕ → ℕ → ℕ → Bool

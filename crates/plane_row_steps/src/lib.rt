@@ -5,7 +5,7 @@ ghost use mathlib.Core.Path.{_≡_};
 ghost use Prim.Native.Nat.{_+_, _*_, _≤_};
 ghost use lib.ListN.{length};
 ghost use Rattle.planes.specs.Bytes.{Bitted};
-ghost use Rattle.plane_pass_steps.specs.Passes.{rowOf};
+ghost use Rattle.plane_pass_steps.specs.Passes.{maskRowOf};
 ghost use Rattle.plane_row_steps.specs.MaskRows.{seedByte, firstBit, nextBit, Rowed, rowsFit, MaskRead};
 
 // What a byte begins with, before a row of the mask is read: ones for erosion, zeros for dilation.
@@ -45,8 +45,8 @@ fn next_row(
     second: bool,
     erode: bool,
 )
-    requires { ⌜ (length (now d) + (o + 2 + c) ≤ length (now s)) × (b ≡ 3 * rowOf second) × (b ≤ 6) ⌝ }
-    ensures { λ _. ⌜ Bitted 0 (length (now (d .entry))) (nextBit erode (now (d .entry)) (now (s .entry)) o c mask (rowOf second)) (now (d .entry)) (now (d .exit)) ⌝ }
+    requires { ⌜ (length (now d) + (o + 2 + c) ≤ length (now s)) × (b ≡ 3 * maskRowOf second) × (b ≤ 6) ⌝ }
+    ensures { λ _. ⌜ Bitted 0 (length (now (d .entry))) (nextBit erode (now (d .entry)) (now (s .entry)) o c mask (maskRowOf second)) (now (d .entry)) (now (d .exit)) ⌝ }
 {
     let f = columns::first(mask, b);
     if f == 3 {

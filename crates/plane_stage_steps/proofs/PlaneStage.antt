@@ -22,7 +22,7 @@ use Rattle.rows.specs.Cells.{bit}
 use Rattle.ranges.specs.Ranges.{Ranged}
 use Rattle.ranges.proofs.Ranges.{ranged-part}
 use Rattle.planes.specs.MaskBits.{overBits}
-use Rattle.planes.specs.Planes.{byteRows, lastRows, planeSize, seen, Shows, afterStage, PlaneTaken}
+use Rattle.planes.specs.Planes.{byteRows, lastRows, planeSize, bitSeen, Shows, afterStage, PlaneTaken}
 use Rattle.planes.proofs.MaskBits.{mask-fold, bitPoint, over-ap}
 use Rattle.planes.proofs.WholeBytes.{one-value}
 use Rattle.planes.proofs.Views.{after-above, after-side, after-under, after-in}
@@ -42,26 +42,26 @@ back-point x i n h l = ⊎-elim
     (lt-or-le (x - i) n)
 
 module _ (C R m : ℕ) (p : List ℕ) (f : Point → ℕ) (h : Shows C R f p) (x y : ℕ) (lx : 2 ≤ x) (hx : x < C + 2) (ly : 8 ≤ y) (hy : y < R + 8) where
-  read : (X Y : ℕ) → X < C + 4 → Y < byteRows R * 8 + 16 → seen (C + 2) p X Y ≡ f (pos X -ℤ pos 2, pos Y -ℤ pos 8)
+  read : (X Y : ℕ) → X < C + 4 → Y < byteRows R * 8 + 16 → bitSeen (C + 2) p X Y ≡ f (pos X -ℤ pos 2, pos Y -ℤ pos 8)
   read = h .at
 
-  stage-ahead : overBits (pickOf true) (seedOf true) (λ b. seen (C + 2) p (x + b % 3) (y + b / 3)) m 9 ≡ eroded lesser full (maskPoints m) f (pos (x - 2), pos (y - 8))
+  stage-ahead : overBits (pickOf true) (seedOf true) (λ b. bitSeen (C + 2) p (x + b % 3) (y + b / 3)) m 9 ≡ eroded lesser full (maskPoints m) f (pos (x - 2), pos (y - 8))
   unfolding _+ᵖ_
-  stage-ahead = over-ap lesser full (λ b. seen (C + 2) p (x + b % 3) (y + b / 3)) (λ b. f ((pos (x - 2), pos (y - 8)) +ᵖ bitPoint b)) m 9
+  stage-ahead = over-ap lesser full (λ b. bitSeen (C + 2) p (x + b % 3) (y + b / 3)) (λ b. f ((pos (x - 2), pos (y - 8)) +ᵖ bitPoint b)) m 9
       (λ b l. read (x + b % 3) (y + b / 3) (omega arith) (omega arith)
       ∙ ap (λ (a : ℤ). f (a, pos (y + b / 3) -ℤ pos 8)) (ahead-point x (b % 3) 2 lx)
       ∙ ap (λ (a : ℤ). f (pos (x - 2 + b % 3), a)) (ahead-point y (b / 3) 8 ly))
       ∙ sym (mask-fold lesser full lesser-laws (λ a. f ((pos (x - 2), pos (y - 8)) +ᵖ a)) m)
 
-  stage-back : overBits (pickOf false) (seedOf false) (λ b. seen (C + 2) p (x - b % 3) (y - b / 3)) m 9 ≡ dilated greater free (maskPoints m) f (pos (x - 2), pos (y - 8))
+  stage-back : overBits (pickOf false) (seedOf false) (λ b. bitSeen (C + 2) p (x - b % 3) (y - b / 3)) m 9 ≡ dilated greater free (maskPoints m) f (pos (x - 2), pos (y - 8))
   unfolding _+ᵖ_ negᵖ
-  stage-back = over-ap greater free (λ b. seen (C + 2) p (x - b % 3) (y - b / 3)) (λ b. f ((pos (x - 2), pos (y - 8)) -ᵖ bitPoint b)) m 9
+  stage-back = over-ap greater free (λ b. bitSeen (C + 2) p (x - b % 3) (y - b / 3)) (λ b. f ((pos (x - 2), pos (y - 8)) -ᵖ bitPoint b)) m 9
       (λ b l. read (x - b % 3) (y - b / 3) (omega arith) (omega arith)
       ∙ ap (λ (a : ℤ). f (a, pos (y - b / 3) -ℤ pos 8)) (back-point x (b % 3) 2 lx (omega arith))
       ∙ ap (λ (a : ℤ). f (pos (x - 2) -ℤ pos (b % 3), a)) (back-point y (b / 3) 8 ly (omega arith)))
       ∙ sym (mask-fold greater free greater-laws (λ a. f ((pos (x - 2), pos (y - 8)) -ᵖ a)) m)
 
-  stage-cell : (erode : Bool) (v : ℕ) → overBits (pickOf erode) (seedOf erode) (λ b. seen (C + 2) p (stepOf erode x (b % 3)) (stepOf erode y (b / 3))) m 9 ≡ afterStage erode v C R m f (pos x -ℤ pos 2, pos y -ℤ pos 8)
+  stage-cell : (erode : Bool) (v : ℕ) → overBits (pickOf erode) (seedOf erode) (λ b. bitSeen (C + 2) p (stepOf erode x (b % 3)) (stepOf erode y (b / 3))) m 9 ≡ afterStage erode v C R m f (pos x -ℤ pos 2, pos y -ℤ pos 8)
   stage-cell true v = stage-ahead ∙ sym (after-in true v C R m f x y lx hx ly hy)
   stage-cell false v = stage-back ∙ sym (after-in false v C R m f x y lx hx ly hy)
 
@@ -78,8 +78,8 @@ module _ (erode : Bool) (s n m : ℕ) (p d ys : List ℕ) (h : 2 ≤ s) (one : s
       (record { len = r .len; at = λ k l u. refl; below = λ k l. absurd (omega arith); above = past })
 
   pub part-cell : (x y : ℕ) → 2 ≤ x → 8 ≤ y → y / 8 * s + x < n * s + s
-      → seen s (putMid (s + 2) (n * s + s - (s + 2)) d ys) x y ≡ overBits (pickOf erode) (seedOf erode) (λ b. seen s p (stepOf erode x (b % 3)) (stepOf erode y (b / 3))) m 9
-  unfolding seen
+      → bitSeen s (putMid (s + 2) (n * s + s - (s + 2)) d ys) x y ≡ overBits (pickOf erode) (seedOf erode) (λ b. bitSeen s p (stepOf erode x (b % 3)) (stepOf erode y (b / 3))) m 9
+  unfolding bitSeen
   part-cell x y lx ly l =
       let a : 1 * s ≤ y / 8 * s = mul-le-mul-right s (omega arith) in
       ap (λ (i : ℕ). bit i (y % 8)) (part .at (y / 8 * s + x) (omega arith) l)
@@ -87,33 +87,33 @@ module _ (erode : Bool) (s n m : ℕ) (p d ys : List ℕ) (h : 2 ≤ s) (one : s
 
 module _ (erode : Bool) (v C R m : ℕ) (p mid d′ : List ℕ) (hv : v ≤ 1) (hR : 0 < R)
     (made : (x y : ℕ) → 2 ≤ x → 8 ≤ y → y / 8 * (C + 2) + x < byteRows R * (C + 2) + (C + 2)
-    → seen (C + 2) mid x y ≡ overBits (pickOf erode) (seedOf erode) (λ b. seen (C + 2) p (stepOf erode x (b % 3)) (stepOf erode y (b / 3))) m 9)
+    → bitSeen (C + 2) mid x y ≡ overBits (pickOf erode) (seedOf erode) (λ b. bitSeen (C + 2) p (stepOf erode x (b % 3)) (stepOf erode y (b / 3))) m 9)
     (b : Bounded (C + 2) (byteRows R) (lastRows R) (v * 255) mid d′) (f : Point → ℕ) (h : Shows C R f p) (x y : ℕ) (lx : x < C + 4) where
   -- a byte that was bounded shows the value outside
-  as-value : getD d′ (y / 8 * (C + 2) + x) 0 ≡ v * 255 → seen (C + 2) d′ x y ≡ v
-  unfolding seen
+  as-value : getD d′ (y / 8 * (C + 2) + x) 0 ≡ v * 255 → bitSeen (C + 2) d′ x y ≡ v
+  unfolding bitSeen
   as-value e = ap (λ (i : ℕ). bit i (y % 8)) e ∙ one-value v (y % 8) hv (omega arith)
 
-  as-made : 2 ≤ x → x < C + 2 → 8 ≤ y → y < R + 8 → seen (C + 2) mid x y ≡ afterStage erode v C R m f (pos x -ℤ pos 2, pos y -ℤ pos 8)
+  as-made : 2 ≤ x → x < C + 2 → 8 ≤ y → y < R + 8 → bitSeen (C + 2) mid x y ≡ afterStage erode v C R m f (pos x -ℤ pos 2, pos y -ℤ pos 8)
   as-made u w t l =
       let a : y / 8 * (C + 2) ≤ byteRows R * (C + 2) = mul-le-mul-right (C + 2) (omega arith) in
       made x y u t (omega arith) ∙ stage-cell C R m p f h x y u w t l erode v
 
-  above-all : y < 8 → seen (C + 2) d′ x y ≡ afterStage erode v C R m f (pos x -ℤ pos 2, pos y -ℤ pos 8)
+  above-all : y < 8 → bitSeen (C + 2) d′ x y ≡ afterStage erode v C R m f (pos x -ℤ pos 2, pos y -ℤ pos 8)
   above-all t =
       let z : y / 8 ≡ 0 = omega arith in
       as-value (b .over (y / 8 * (C + 2) + x) (omega (arith, ap (λ (i : ℕ). i * (C + 2)) z))) ∙ sym (after-above erode v C R m f x y t)
 
-  under-all : byteRows R * 8 + 8 ≤ y → y < byteRows R * 8 + 16 → seen (C + 2) d′ x y ≡ afterStage erode v C R m f (pos x -ℤ pos 2, pos y -ℤ pos 8)
+  under-all : byteRows R * 8 + 8 ≤ y → y < byteRows R * 8 + 16 → bitSeen (C + 2) d′ x y ≡ afterStage erode v C R m f (pos x -ℤ pos 2, pos y -ℤ pos 8)
   under-all t t' =
       let z : y / 8 ≡ byteRows R + 1 = omega arith in
       as-value (b .under (y / 8 * (C + 2) + x) (omega (arith, ap (λ (i : ℕ). i * (C + 2)) z)) (omega (arith, ap (λ (i : ℕ). i * (C + 2)) z, add-mul (byteRows R) 1 (C + 2), add-mul (byteRows R) 2 (C + 2))))
       ∙ sym (after-under erode v C R m f x y (omega arith))
 
-  left-side : 8 ≤ y → y < byteRows R * 8 + 8 → x < 2 → seen (C + 2) d′ x y ≡ afterStage erode v C R m f (pos x -ℤ pos 2, pos y -ℤ pos 8)
+  left-side : 8 ≤ y → y < byteRows R * 8 + 8 → x < 2 → bitSeen (C + 2) d′ x y ≡ afterStage erode v C R m f (pos x -ℤ pos 2, pos y -ℤ pos 8)
   left-side t t' u = as-value (b .side (y / 8) x (omega arith) (omega arith) u) ∙ sym (after-side erode v C R m f x y t (λ w w'. omega arith))
 
-  right-side : 8 ≤ y → y < byteRows R * 8 + 8 → C + 2 ≤ x → seen (C + 2) d′ x y ≡ afterStage erode v C R m f (pos x -ℤ pos 2, pos y -ℤ pos 8)
+  right-side : 8 ≤ y → y < byteRows R * 8 + 8 → C + 2 ≤ x → bitSeen (C + 2) d′ x y ≡ afterStage erode v C R m f (pos x -ℤ pos 2, pos y -ℤ pos 8)
   right-side t t' u =
       let a = add-mul (y / 8) 1 (C + 2) in
       let i : y / 8 * (C + 2) + x ≡ (y / 8 + 1) * (C + 2) + (x - (C + 2)) = omega arith in
@@ -126,28 +126,28 @@ module _ (erode : Bool) (v C R m : ℕ) (p mid d′ : List ℕ) (hv : v ≤ 1) (
       (lt-or-le (y / 8) (byteRows R)))
       ∙ sym (after-side erode v C R m f x y t (λ w w'. omega arith))
 
-  unmoved : 8 ≤ y → y / 8 < byteRows R → 2 ≤ x → x < C + 2 → seen (C + 2) d′ x y ≡ seen (C + 2) mid x y
-  unfolding seen
+  unmoved : 8 ≤ y → y / 8 < byteRows R → 2 ≤ x → x < C + 2 → bitSeen (C + 2) d′ x y ≡ bitSeen (C + 2) mid x y
+  unfolding bitSeen
   unmoved t t' u u' = ap (λ (i : ℕ). bit i (y % 8)) (b .inner (y / 8) x (omega arith) t' u u')
 
-  inner-rows : 8 ≤ y → y / 8 < byteRows R → 2 ≤ x → x < C + 2 → seen (C + 2) d′ x y ≡ afterStage erode v C R m f (pos x -ℤ pos 2, pos y -ℤ pos 8)
+  inner-rows : 8 ≤ y → y / 8 < byteRows R → 2 ≤ x → x < C + 2 → bitSeen (C + 2) d′ x y ≡ afterStage erode v C R m f (pos x -ℤ pos 2, pos y -ℤ pos 8)
   inner-rows t t' u u' = unmoved t t' u u' ∙ as-made u u' t (omega arith)
 
   -- the last row of bytes, by whether it has the bit
-  last-byte : y / 8 ≡ byteRows R → 2 ≤ x → x < C + 2 → seen (C + 2) d′ x y ≡ cond (ltb (y % 8) (lastRows R)) (seen (C + 2) mid x y) (bit (v * 255) (y % 8))
-  unfolding seen
+  last-byte : y / 8 ≡ byteRows R → 2 ≤ x → x < C + 2 → bitSeen (C + 2) d′ x y ≡ cond (ltb (y % 8) (lastRows R)) (bitSeen (C + 2) mid x y) (bit (v * 255) (y % 8))
+  unfolding bitSeen
   last-byte z u u' = rw z (b .last x (y % 8) u u' (omega arith))
 
-  last-row : 8 ≤ y → y / 8 ≡ byteRows R → 2 ≤ x → x < C + 2 → seen (C + 2) d′ x y ≡ afterStage erode v C R m f (pos x -ℤ pos 2, pos y -ℤ pos 8)
+  last-row : 8 ≤ y → y / 8 ≡ byteRows R → 2 ≤ x → x < C + 2 → bitSeen (C + 2) d′ x y ≡ afterStage erode v C R m f (pos x -ℤ pos 2, pos y -ℤ pos 8)
   last-row t z u u' = last-byte z u u' ∙ ⊎-elim
       (λ (w : y % 8 < lastRows R). rw (lt-ltb (y % 8) (lastRows R) w) (as-made u u' t (omega arith)))
       (λ (w : lastRows R ≤ y % 8). rw (le-ltb (y % 8) (lastRows R) w) (one-value v (y % 8) hv (omega arith) ∙ sym (after-under erode v C R m f x y (omega arith))))
       (lt-or-le (y % 8) (lastRows R))
 
-  between : 8 ≤ y → y < byteRows R * 8 + 8 → 2 ≤ x → x < C + 2 → seen (C + 2) d′ x y ≡ afterStage erode v C R m f (pos x -ℤ pos 2, pos y -ℤ pos 8)
+  between : 8 ≤ y → y < byteRows R * 8 + 8 → 2 ≤ x → x < C + 2 → bitSeen (C + 2) d′ x y ≡ afterStage erode v C R m f (pos x -ℤ pos 2, pos y -ℤ pos 8)
   between t t' u u' = ⊎-elim (λ (w : y / 8 < byteRows R). inner-rows t w u u') (λ (w : byteRows R ≤ y / 8). last-row t (omega arith) u u') (lt-or-le (y / 8) (byteRows R))
 
-  pub shown-at : y < byteRows R * 8 + 16 → seen (C + 2) d′ x y ≡ afterStage erode v C R m f (pos x -ℤ pos 2, pos y -ℤ pos 8)
+  pub shown-at : y < byteRows R * 8 + 16 → bitSeen (C + 2) d′ x y ≡ afterStage erode v C R m f (pos x -ℤ pos 2, pos y -ℤ pos 8)
   shown-at l = ⊎-elim
       (λ (t : y < 8). above-all t)
       (λ (t : 8 ≤ y). ⊎-elim

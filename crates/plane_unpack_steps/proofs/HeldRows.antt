@@ -9,7 +9,7 @@ use borrow.Rule.Slice.PartMut.{midOf, putMid}
 use Rattle.rows.specs.Cells.{bit}
 use Rattle.ranges.specs.Ranges.{Ranged}
 use Rattle.ranges.proofs.Ranges.{getD-mid, ranged-ap, ranged-part}
-use Rattle.planes.specs.Planes.{byteRows, planeSize, seen, planeCells}
+use Rattle.planes.specs.Planes.{byteRows, planeSize, bitSeen, planeCells}
 use Rattle.planes.proofs.OnGrids.{held-cell}
 
 -- a row of cells stands within the plane
@@ -20,7 +20,7 @@ row-fits C R y l =
 
 pub held-bit : (C R : ℕ) (p : List ℕ) (q y i : ℕ) → q ≡ (y / 8 + 1) * (C + 2) + 2 → i < C → y < R
     → bit (getD (midOf q (q + C - q) p) i 0) (y % 8) ≡ getD (planeCells C R p) (y * C + i) 0
-unfolding seen
+unfolding bitSeen
 held-bit C R p q y i e l u =
     let a : (y + 8) / 8 ≡ y / 8 + 1 = omega arith in
     let b : (y + 8) % 8 ≡ y % 8 = omega arith in

@@ -3,7 +3,7 @@ ghost use mathlib.Core.Path.{_≡_};
 ghost use Prim.Native.Nat.{_+_, _*_, _<_, _≤_};
 ghost use lib.ListN.{length, getD};
 ghost use Rattle.rows.specs.Cells.{bit};
-ghost use Rattle.ranges.specs.Ranges.{over, Ranged};
+ghost use Rattle.ranges.specs.Ranges.{overFront, Ranged};
 ghost use Rattle.cuts.specs.Cuts.{cutOut, shifted, seen};
 ghost use Rattle.planes.specs.Planes.{planeSize, planeCells};
 
@@ -83,7 +83,7 @@ pub(crate) fn down(
     outside: u8,
 )
     requires { ⌜ (planeSize gw gh ≤ length (now src)) × (w * h ≤ length (now dst)) × (w ≤ 65535) × (h ≤ 65535) × (gw ≤ 65535) × (gh ≤ 65535) × (a ≤ 65535) × (b ≤ 65535) ⌝ }
-    ensures { λ _. ⌜ now (dst .exit) ≡ over (w * h) (cutOut outside w h gw gh a b (planeCells gw gh (now (src .entry)))) (now (dst .entry)) ⌝ }
+    ensures { λ _. ⌜ now (dst .exit) ≡ overFront (w * h) (cutOut outside w h gw gh a b (planeCells gw gh (now (src .entry)))) (now (dst .entry)) ⌝ }
 {
     let mut p: usize = 0;
     let mut y: usize = 0;

@@ -13,7 +13,7 @@ use Rattle.plane.proofs.Tests.{T-and, lt-or-le}
 use Rattle.masks.specs.Mask.{maskCells}
 use Rattle.grids.specs.Image.{view, cells, valueAt}
 use Rattle.cuts.specs.Cuts.{cutOut}
-use Rattle.planes.specs.Planes.{byteRows, planeSize, seen, Shows, packFits, lowBits, afterStage, stageFits, heldAt, planeCells}
+use Rattle.planes.specs.Planes.{byteRows, planeSize, bitSeen, Shows, packFits, lowBits, afterStage, stageFits, heldAt, planeCells}
 
 -- ---- whether a plane shows a picture, by computing
 
@@ -32,16 +32,16 @@ below-all (suc n) p t k l =
     (lt-or-le k n)
 
 shown : ℕ → ℕ → (Point → ℕ) → List ℕ → Bool
-shown C R f p = below (C + 4) (λ x. below (byteRows R * 8 + 16) (λ y. eqb (seen (C + 2) p x y) (f (pos x -ℤ pos 2, pos y -ℤ pos 8))))
+shown C R f p = below (C + 4) (λ x. below (byteRows R * 8 + 16) (λ y. eqb (bitSeen (C + 2) p x y) (f (pos x -ℤ pos 2, pos y -ℤ pos 8))))
 
 shows-by : (C R : ℕ) (f : Point → ℕ) (p : List ℕ) → planeSize C R ≤ length p → T (shown C R f p) → Shows C R f p
 unfolding shown
 shows-by C R f p l t = record {
   size = l;
   at = λ x y lx ly.
-      eqb→eq (seen (C + 2) p x y) (f (pos x -ℤ pos 2, pos y -ℤ pos 8))
-      (below-all (byteRows R * 8 + 16) (λ y. eqb (seen (C + 2) p x y) (f (pos x -ℤ pos 2, pos y -ℤ pos 8)))
-      (below-all (C + 4) (λ x. below (byteRows R * 8 + 16) (λ y. eqb (seen (C + 2) p x y) (f (pos x -ℤ pos 2, pos y -ℤ pos 8)))) t x lx) y ly);
+      eqb→eq (bitSeen (C + 2) p x y) (f (pos x -ℤ pos 2, pos y -ℤ pos 8))
+      (below-all (byteRows R * 8 + 16) (λ y. eqb (bitSeen (C + 2) p x y) (f (pos x -ℤ pos 2, pos y -ℤ pos 8)))
+      (below-all (C + 4) (λ x. below (byteRows R * 8 + 16) (λ y. eqb (bitSeen (C + 2) p x y) (f (pos x -ℤ pos 2, pos y -ℤ pos 8)))) t x lx) y ly);
 }
 
 -- ---- three columns and three rows
@@ -58,7 +58,7 @@ size-17 = refl
 
 -- packed
 packed-9 : Shows 3 3 (view 0 3 3 nine) plane9
-unfolding nine plane9 shown below seen valueAt
+unfolding nine plane9 shown below bitSeen valueAt
 packed-9 = shows-by 3 3 (view 0 3 3 nine) plane9 (omega arith) tt
 
 -- a cell of 3 is packed as 1, and one of 2 as 0
@@ -67,21 +67,21 @@ low-bits-alone = refl
 
 -- dilated by cells 0 and 1 of a row: nothing is carried past the last column
 dilated-9 : Shows 3 3 (afterStage false 0 3 3 3 (view 0 3 3 nine)) (replicate 7 0 ++ 1 ∷ 3 ∷ 7 ∷ replicate 7 0)
-unfolding nine shown below seen valueAt afterStage cells maskCells _+ᵖ_ negᵖ
+unfolding nine shown below bitSeen valueAt afterStage cells maskCells _+ᵖ_ negᵖ
 dilated-9 = shows-by 3 3 (afterStage false 0 3 3 3 (view 0 3 3 nine)) (replicate 7 0 ++ 1 ∷ 3 ∷ 7 ∷ replicate 7 0) (omega arith) tt
 
 -- eroded by the same with 1 outside: the last column keeps what it has, and so do pads, guards and the rows below the third
 eroded-9 : Shows 3 3 (afterStage true 1 3 3 3 (view 1 3 3 nine)) (replicate 7 255 ++ 248 ∷ 248 ∷ 253 ∷ replicate 7 255)
-unfolding nine shown below seen valueAt afterStage cells maskCells _+ᵖ_ negᵖ
+unfolding nine shown below bitSeen valueAt afterStage cells maskCells _+ᵖ_ negᵖ
 eroded-9 = shows-by 3 3 (afterStage true 1 3 3 3 (view 1 3 3 nine)) (replicate 7 255 ++ 248 ∷ 248 ∷ 253 ∷ replicate 7 255) (omega arith) tt
 
 -- unpacked, whole and one column on
 unpacked-9 : planeCells 3 3 plane9 ≡ nine
-unfolding nine plane9 seen heldAt cells
+unfolding nine plane9 bitSeen heldAt cells
 unpacked-9 = refl
 
 unpacked-on : cutOut 0 3 3 3 3 16 15 (planeCells 3 3 plane9) ≡ 0 ∷ 1 ∷ 0 ∷ 1 ∷ 0 ∷ 0 ∷ 0 ∷ 1 ∷ 0 ∷ []
-unfolding plane9 seen heldAt cells cutOut valueAt _+ᵖ_
+unfolding plane9 bitSeen heldAt cells cutOut valueAt _+ᵖ_
 unpacked-on = refl
 
 -- ---- sizes

@@ -23,7 +23,7 @@ use Rattle.grids.proofs.Pictures.{getD-cells, length-cells}
 use Rattle.ranges.proofs.FlatRows.{flat-lt}
 use Rattle.ranges.proofs.Values.{value-in, value-right, value-under, value-left, value-above}
 use Rattle.cuts.specs.Cuts.{cutOut}
-use Rattle.planes.specs.Planes.{byteRows, planeSize, seen, Shows, Kept, lowBits, packFits, afterStage, stageFits, heldAt, planeCells, unpackFits}
+use Rattle.planes.specs.Planes.{byteRows, planeSize, bitSeen, Shows, PlaneOnly, lowBits, packFits, afterStage, stageFits, heldAt, planeCells, unpackFits}
 
 -- cells that no ground refuses are packed whole
 pub low-bits : (f : List ℕ) → T (not (badCell f)) → lowBits f ≡ f
@@ -81,7 +81,7 @@ plane-fits W H =
     omega (arith, mul-comm R C)
 
 -- so what is kept past the plane is kept past the grid
-pub kept-drop : (W H : ℕ) {d d′ : List ℕ} → Kept (W + 15) (H + 15) d d′ → drop (gridSize W H) d′ ≡ drop (gridSize W H) d
+pub kept-drop : (W H : ℕ) {d d′ : List ℕ} → PlaneOnly (W + 15) (H + 15) d d′ → drop (gridSize W H) d′ ≡ drop (gridSize W H) d
 kept-drop W H {d} {d′} k =
     ext-getD 0 (drop (gridSize W H) d′) (drop (gridSize W H) d) (omega (arith, length-drop (gridSize W H) d′, length-drop (gridSize W H) d, k .len))
     (λ i l. getD-drop (gridSize W H) d′ i 0 ∙ k .past (gridSize W H + i) (omega (arith, plane-fits W H)) ∙ sym (getD-drop (gridSize W H) d i 0))
@@ -128,13 +128,13 @@ module _ (C R : ℕ) (p : List ℕ) where
   pub held-size : length (planeCells C R p) ≡ C * R
   held-size = length-cells C R (λ q. heldAt C p (q .0) (q .1)) ∙ mul-comm R C
 
-  pub held-cell : (x y : ℕ) → x < C → y < R → getD (planeCells C R p) (y * C + x) 0 ≡ seen (C + 2) p (x + 2) (y + 8)
+  pub held-cell : (x y : ℕ) → x < C → y < R → getD (planeCells C R p) (y * C + x) 0 ≡ bitSeen (C + 2) p (x + 2) (y + 8)
   unfolding heldAt
   held-cell x y u t = getD-cells C R (λ q. heldAt C p (q .0) (q .1)) x y 0 u t
 
 -- a plane that shows a grid has its cells
 module _ (v C R : ℕ) (g p : List ℕ) (h : Shows C R (view v C R g) p) where
-  shown-cell : (x y : ℕ) → x < C → y < R → seen (C + 2) p (x + 2) (y + 8) ≡ valueAt v C R g (pos x) (pos y)
+  shown-cell : (x y : ℕ) → x < C → y < R → bitSeen (C + 2) p (x + 2) (y + 8) ≡ valueAt v C R g (pos x) (pos y)
   shown-cell x y u t =
       let i : x + 2 - 2 ≡ x = omega arith in
       let j : y + 8 - 8 ≡ y = omega arith in
@@ -166,11 +166,11 @@ natural (negsuc n) = 0
 module _ (C R : ℕ) (p : List ℕ) where
   -- what stands at each point that the plane has a bit for
   pub planePicture : Point → ℕ
-  planePicture q = let r = q +ᵖ (pos 2, pos 8) in seen (C + 2) p (natural (r .0)) (natural (r .1))
+  planePicture q = let r = q +ᵖ (pos 2, pos 8) in bitSeen (C + 2) p (natural (r .0)) (natural (r .1))
 
   pub every-plane : planeSize C R ≤ length p → Shows C R planePicture p
   unfolding planePicture natural _+ᵖ_ negᵖ
   every-plane l = record {
     size = l;
-    at = λ x y lx ly. ap (λ (r : Point). seen (C + 2) p (natural (r .0)) (natural (r .1))) (sym (subᵖ-cancel (pos x, pos y) (pos 2, pos 8)));
+    at = λ x y lx ly. ap (λ (r : Point). bitSeen (C + 2) p (natural (r .0)) (natural (r .1))) (sym (subᵖ-cancel (pos x, pos y) (pos 2, pos 8)));
   }

@@ -29,16 +29,16 @@ abbrev pub planeSize : ℕ → ℕ → ℕ
 planeSize C R = (byteRows R + 2) * (C + 2) + 2
 
 -- column x of row y of the bytes p, s bytes a row of bytes, counted from the plane's first byte and its lowest bit
-unfoldable pub seen : ℕ → List ℕ → ℕ → ℕ → ℕ
-seen s p x y = bit (getD p (y / 8 * s + x) 0) (y % 8)
+unfoldable pub bitSeen : ℕ → List ℕ → ℕ → ℕ → ℕ
+bitSeen s p x y = bit (getD p (y / 8 * s + x) 0) (y % 8)
 
 -- p is a plane of C columns and R rows that shows the picture f, in every bit: the cell (0, 0) is column 2 of row 8
 pub record Shows (C R : ℕ) (f : Point → ℕ) (p : List ℕ) : Type 0 where
   pub size : planeSize C R ≤ length p
-  pub at : (x y : ℕ) → x < C + 4 → y < byteRows R * 8 + 16 → seen (C + 2) p x y ≡ f (pos x -ℤ pos 2, pos y -ℤ pos 8)
+  pub at : (x y : ℕ) → x < C + 4 → y < byteRows R * 8 + 16 → bitSeen (C + 2) p x y ≡ f (pos x -ℤ pos 2, pos y -ℤ pos 8)
 
 -- bytes past the plane, and how many there are, are as they were
-pub record Kept (C R : ℕ) (d d′ : List ℕ) : Type 0 where
+pub record PlaneOnly (C R : ℕ) (d d′ : List ℕ) : Type 0 where
   pub len : length d′ ≡ length d
   pub past : (k : ℕ) → planeSize C R ≤ k → getD d′ k 0 ≡ getD d k 0
 
@@ -58,7 +58,7 @@ packFits v W H C R n k = planeSides v C R && leb W C && leb H R && leb (W * H) n
 
 -- a frame f of W columns and H rows, with v around it, was packed into d, which then is d′
 pub record FramePacked (v W H C R : ℕ) (f d d′ : List ℕ) : Type 0 where
-  pub kept : Kept C R d d′
+  pub kept : PlaneOnly C R d d′
   pub shown : Shows C R (view v W H (lowBits f)) d′
 
 abbrev pub Packed : ℕ → ℕ → ℕ → ℕ → ℕ → List ℕ → List ℕ → Bool → List ℕ → Type 0
@@ -76,7 +76,7 @@ stageFits v C R n k = planeSides v C R && leb (planeSize C R) n && leb (planeSiz
 
 -- a plane p was taken through the stage of the mask m, with v outside, into d, which then is d′: whatever p shows, d′ shows after the stage
 pub record PlaneTaken (erode : Bool) (v C R m : ℕ) (p d d′ : List ℕ) : Type 0 where
-  pub kept : Kept C R d d′
+  pub kept : PlaneOnly C R d d′
   pub shown : (f : Point → ℕ) → Shows C R f p → Shows C R (afterStage erode v C R m f) d′
 
 abbrev pub PlaneStaged : Bool → ℕ → ℕ → ℕ → ℕ → List ℕ → List ℕ → Bool → List ℕ → Type 0
@@ -86,7 +86,7 @@ PlaneStaged erode v C R m p d r d′ = Fitted (stageFits v C R (length p) (lengt
 
 -- the cell of a plane p of C columns that stands at (x, y)
 unfoldable pub heldAt : ℕ → List ℕ → ℤ → ℤ → ℕ
-heldAt C p (pos x) (pos y) = seen (C + 2) p (x + 2) (y + 8)
+heldAt C p (pos x) (pos y) = bitSeen (C + 2) p (x + 2) (y + 8)
 heldAt C p (pos x) (negsuc y) = 0
 heldAt C p (negsuc x) y = 0
 

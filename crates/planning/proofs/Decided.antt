@@ -28,7 +28,7 @@ use Rattle.shapes.specs.Plan.{planWords}
 use Rattle.shapes.specs.Shape.{shapeTests, shapePoints, anchor}
 use Rattle.shapes.proofs.Accepted.{Shaped, accepted-shape}
 use Rattle.shapes.proofs.Written.{plan-length}
-use Rattle.planning.specs.Planning.{planningTests, Planned, PlanWritten, Unplannable, Shape}
+use Rattle.planning.specs.Planning.{planningTests, Planned, PlanWritten, Unplannable, ShapeSet}
 
 -- ---- plans and chains
 
@@ -58,7 +58,7 @@ unfolding shapeTests
 accepted ws out e = accepted-shape ws (clear-first (shapeTests ws) ((9, shortOutput 32 out) ∷ []) (clear (planningTests ws out) tt e))
 
 -- an accepted shape has a point
-pub some-point : (ws : List ℕ) → Shaped ws → (p : Point) × Shape ws p
+pub some-point : (ws : List ℕ) → Shaped ws → (p : Point) × ShapeSet ws p
 some-point ws S =
     let c = S .placed .low .x in
     let d = point (S .corner) -ᵖ point (anchor ws) in
@@ -68,26 +68,26 @@ some-point ws S =
 
 module _ (ws out : List ℕ) (e : firstOf (planningTests ws out) ≡ 0) (r : Answer) (out′ : List ℕ) (p : Planned ws out r out′) where
   -- with a picked plan: its words, and their number
-  pub planned : (d : Point) (ms : List ℕ) → Picked stage (Shape ws) d ms → (stated r ≡ result (length ms + 2)) × (out′ ≡ planWords d ms ++ drop (length ms + 2) out)
+  pub planned : (d : Point) (ms : List ℕ) → Picked stage (ShapeSet ws) d ms → (stated r ≡ result (length ms + 2)) × (out′ ≡ planWords d ms ++ drop (length ms + 2) out)
   planned d ms P = go (p .done e)
     where
       go : Unplannable ws out r out′ ⊎ PlanWritten ws out r out′ → (stated r ≡ result (length ms + 2)) × (out′ ≡ planWords d ms ++ drop (length ms + 2) out)
-      go (inl u) = absurd (u .none (chain-of (Shape ws) d ms (P .plan)))
+      go (inl u) = absurd (u .none (chain-of (ShapeSet ws) d ms (P .plan)))
       go (inr w) =
-          let s : w .stages ≡ ms = picked-once stage (Shape ws) (w .offset) d (w .stages) ms (w .picked) P in
+          let s : w .stages ≡ ms = picked-once stage (ShapeSet ws) (w .offset) d (w .stages) ms (w .picked) P in
           let o : w .offset ≡ d = offset-once (shapePoints ws) (w .offset) d (w .stages) ms (w .picked .plan) (P .plan) in
           (w .answer ∙ ap (λ l. result (length l + 2)) s, w .words ∙ ap₂ (λ x l. planWords x l ++ drop (length l + 2) out) o s)
 
   -- with no chain: refused 10, and nothing is written
-  pub unplanned : ¬ Chain subset (Shape ws) → (stated r ≡ refusal 10) × (out′ ≡ out)
+  pub unplanned : ¬ Chain subset (ShapeSet ws) → (stated r ≡ refusal 10) × (out′ ≡ out)
   unplanned none = go (p .done e)
     where
       go : Unplannable ws out r out′ ⊎ PlanWritten ws out r out′ → (stated r ≡ refusal 10) × (out′ ≡ out)
       go (inl u) = (u .answer, u .kept)
-      go (inr w) = absurd (none (chain-of (Shape ws) (w .offset) (w .stages) (w .picked .plan)))
+      go (inr w) = absurd (none (chain-of (ShapeSet ws) (w .offset) (w .stages) (w .picked .plan)))
 
 -- the words that were written, as many as the length returned
-pub written-words : (ws out out′ : List ℕ) (S : Shaped ws) (d : Point) (ms : List ℕ) → PlanOf stage (Shape ws) d ms
+pub written-words : (ws out out′ : List ℕ) (S : Shaped ws) (d : Point) (ms : List ℕ) → PlanOf stage (ShapeSet ws) d ms
     → out′ ≡ planWords d ms ++ drop (length ms + 2) out → take (length ms + 2) out′ ≡ planWords d ms
 written-words ws out out′ S d ms P w =
     let n = length ms + 2 in
@@ -97,16 +97,16 @@ written-words ws out out′ S d ms P w =
 -- ---- the promise can be kept wherever there is a picked plan, or no chain
 
 module _ (ws out : List ℕ) (e : firstOf (planningTests ws out) ≡ 0) where
-  pub can-plan : (d : Point) (ms : List ℕ) → Picked stage (Shape ws) d ms → (r : Answer) × (out′ : List ℕ) × Planned ws out r out′
+  pub can-plan : (d : Point) (ms : List ℕ) → Picked stage (ShapeSet ws) d ms → (r : Answer) × (out′ : List ℕ) × Planned ws out r out′
   can-plan d ms P =
       let q = some-point ws (accepted ws out e) in (
         Done (length ms + 2),
         planWords d ms ++ drop (length ms + 2) out,
         record {
           refused = λ n. absurd (n e);
-          done = λ _. inr (record { offset = d; stages = ms; picked = P; fewest = picked-fewest (Shape ws) (q .0) (q .1) d ms P; answer = refl; words = refl });
+          done = λ _. inr (record { offset = d; stages = ms; picked = P; fewest = picked-fewest (ShapeSet ws) (q .0) (q .1) d ms P; answer = refl; words = refl });
         },
       )
 
-  pub can-refuse : ¬ Chain subset (Shape ws) → (r : Answer) × (out′ : List ℕ) × Planned ws out r out′
+  pub can-refuse : ¬ Chain subset (ShapeSet ws) → (r : Answer) × (out′ : List ℕ) × Planned ws out r out′
   can-refuse none = (Refused NoChain, out, record { refused = λ n. absurd (n e); done = λ _. inl (record { none = none; answer = refl; kept = refl }) })

@@ -8,7 +8,7 @@ use Rattle.words.specs.Ground.{firstOf, stated, result, refusal}
 use Rattle.words.specs.declared.Answer.{Answer}
 use Rattle.masks.specs.Chain.{Chain, subset}
 use Rattle.shapes.specs.Shape.{shapeTests}
-use Rattle.planning.specs.Planning.{Shape, planningTests, Unplannable, PlanWritten, Planned}
+use Rattle.planning.specs.Planning.{ShapeSet, planningTests, Unplannable, PlanWritten, Planned}
 use Rattle.planning.specs.Printer.{wordLine, wordLines, shown, Reads, Printed}
 
 -- an output list of 32 words is enough for a plan, and a wrong shape list comes before one that is not
@@ -74,5 +74,5 @@ answers-4 : (ws out : List ℕ) (r : Answer) (out′ : List ℕ) (w : PlanWritte
 answers-4 ws out r out′ w e = w .answer ∙ ap (λ l. result (length l + 2)) e
 
 -- a shape with a chain is not refused by 10
-not-ten : (ws out : List ℕ) (r : Answer) (out′ : List ℕ) → Chain subset (Shape ws) → Unplannable ws out r out′ → ⊥
+not-ten : (ws out : List ℕ) (r : Answer) (out′ : List ℕ) → Chain subset (ShapeSet ws) → Unplannable ws out r out′ → ⊥
 not-ten ws out r out′ c u = u .none c

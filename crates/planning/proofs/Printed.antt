@@ -10,7 +10,7 @@ use Rattle.masks.specs.Chain.{Chain, subset, Picked}
 use Rattle.masks.specs.Mask.{stage}
 use Rattle.shapes.specs.Plan.{planWords}
 use Rattle.shapes.specs.Shape.{shapeTests}
-use Rattle.planning.specs.Planning.{planningTests, Shape}
+use Rattle.planning.specs.Planning.{planningTests, ShapeSet}
 use Rattle.planning.specs.Printer.{wordLines, Reads, Printed, PrintedFor, shown, refusedLine}
 use Rattle.planning.proofs.Decided.{planned, unplanned, written-words, accepted}
 
@@ -19,7 +19,7 @@ module _ (input output ws : List ℕ) (R : Reads input ws) (P : Printed input ou
   printing = P .readable ws R
 
   -- the plan, a line a word
-  pub printed-plan : (d : Point) (ms : List ℕ) → Picked stage (Shape ws) d ms → output ≡ wordLines (planWords d ms)
+  pub printed-plan : (d : Point) (ms : List ℕ) → Picked stage (ShapeSet ws) d ms → output ≡ wordLines (planWords d ms)
   printed-plan d ms k =
       let q = printing in
       let e = ok (q .out) (q .room) in
@@ -27,7 +27,7 @@ module _ (input output ws : List ℕ) (R : Reads input ws) (P : Printed input ou
       q .prints ∙ ap (λ s. shown s (q .out′)) (r .0) ∙ ap wordLines (written-words ws (q .out) (q .out′) (accepted ws (q .out) e) d ms (k .plan) (r .1))
 
   -- the refusal
-  pub printed-none : ¬ Chain subset (Shape ws) → output ≡ refusedLine 10
+  pub printed-none : ¬ Chain subset (ShapeSet ws) → output ≡ refusedLine 10
   printed-none none =
       let q = printing in
       let r = unplanned ws (q .out) (ok (q .out) (q .room)) (q .answer) (q .out′) (q .plans) none in

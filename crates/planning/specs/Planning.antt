@@ -16,8 +16,8 @@ use Rattle.shapes.specs.Plan.{planWords}
 use Rattle.shapes.specs.Calls.{shortOutput}
 
 -- the points of a shape list, as a set
-abbrev pub Shape : List ℕ → PointSet
-Shape ws = In (shapePoints ws)
+abbrev pub ShapeSet : List ℕ → PointSet
+ShapeSet ws = In (shapePoints ws)
 
 -- the masks that a chain's members are taken from: all subsets of the square; and those that a plan's stages are taken from: the 399 stages
 abbrev pub member : ℕ → Bool
@@ -32,7 +32,7 @@ planningTests ws out = shapeTests ws ++ (9, shortOutput 32 out) ∷ []
 
 -- ground 10: no chain exists. The refusal changes nothing lent
 pub record Unplannable (ws out : List ℕ) (r : Answer) (out′ : List ℕ) : Type 0 where
-  pub none : ¬ Chain member (Shape ws)
+  pub none : ¬ Chain member (ShapeSet ws)
   pub answer : stated r ≡ refusal 10
   pub kept : out′ ≡ out
 
@@ -41,8 +41,8 @@ pub record Unplannable (ws out : List ℕ) (r : Answer) (out′ : List ℕ) : Ty
 pub record PlanWritten (ws out : List ℕ) (r : Answer) (out′ : List ℕ) : Type 0 where
   pub offset : Point
   pub stages : List ℕ
-  pub picked : Picked permitted (Shape ws) offset stages
-  pub fewest : (c : Chain member (Shape ws)) → length stages ≤ length (c .members)
+  pub picked : Picked permitted (ShapeSet ws) offset stages
+  pub fewest : (c : Chain member (ShapeSet ws)) → length stages ≤ length (c .members)
   pub answer : stated r ≡ result (length stages + 2)
   pub words : out′ ≡ planWords offset stages ++ drop (length stages + 2) out
 

@@ -14,17 +14,17 @@ use Rattle.planning.specs.Printer.{wordLines, refusedLine, shown}
 use Rattle.text.specs.Page.{Holds}
 use Rattle.text.specs.declared.Page.{Page}
 use Rattle.text.proofs.Pages.{page-text}
-use Rattle.print_calls.specs.Answers.{Shows}
+use Rattle.print_calls.specs.Answers.{PageShows}
 
 module _ (a : Answer) (out : List ℕ) (r : Page) where
   -- a plan of n words, for which a page has room
-  pub shows-part : (n : ℕ) → a ≡ Done n → n ≤ 32 → Holds (wordLines (take 32 (take n out))) r → Shows a out (take (r .n) (r .bytes))
+  pub shows-part : (n : ℕ) → a ≡ Done n → n ≤ 32 → Holds (wordLines (take 32 (take n out))) r → PageShows a out (take (r .n) (r .bytes))
   shows-part n e h H =
       let l = length-take n out in
       record { text = page-text _ r H ∙ ap wordLines (take-all 32 (take n out) (omega arith)) ∙ sym (ap (λ b. shown (stated b) out) e) }
 
   -- an output list of 32 words has no more
-  pub shows-whole : (n : ℕ) → a ≡ Done n → length out ≡ 32 → 32 < n → Holds (wordLines (take 32 out)) r → Shows a out (take (r .n) (r .bytes))
+  pub shows-whole : (n : ℕ) → a ≡ Done n → length out ≡ 32 → 32 < n → Holds (wordLines (take 32 out)) r → PageShows a out (take (r .n) (r .bytes))
   shows-whole n e l h H =
       record { text = page-text _ r H ∙ ap wordLines (take-all 32 out (omega arith) ∙ sym (take-all n out (omega arith))) ∙ sym (ap (λ b. shown (stated b) out) e) }
 
@@ -46,6 +46,6 @@ refused-is CellValue out = refl
 refused-is ImageLength out = refl
 
 pub shows-refused : (a : Answer) (out : List ℕ) (r : Page) (g : Ground) (k : ℕ) → a ≡ Refused g → k ≡ numberOf g → Holds (refusedLine (k % 100)) r
-    → Shows a out (take (r .n) (r .bytes))
+    → PageShows a out (take (r .n) (r .bytes))
 shows-refused a out r g k e f H =
     record { text = page-text _ r H ∙ ap (λ n. refusedLine (n % 100)) f ∙ refused-is g out ∙ sym (ap (λ b. shown (stated b) out) e) }

@@ -9,7 +9,7 @@ use Rattle.text.specs.Reader.{Held}
 use Rattle.text.specs.declared.Reading.{Reading}
 
 -- the output is what is shown of an answer and the output list of 32 words that it left
-pub record Shows (answer : Answer) (out output : List ℕ) : Type 0 where
+pub record PageShows (answer : Answer) (out output : List ℕ) : Type 0 where
   pub text : output ≡ shown (stated answer) out
 
 -- the output is what is printed for every input of which s is the reading

@@ -3,14 +3,14 @@ ghost use Prim.Native.Nat.{_≤_};
 ghost use lib.ListN.{take};
 ghost use Rattle.planning.specs.Printer.{Printed, PrintedFor};
 ghost use Rattle.text.specs.Page.{Blank};
-ghost use Rattle.print_calls.specs.Answers.{Answers, Shows};
+ghost use Rattle.print_calls.specs.Answers.{Answers, PageShows};
 use text::Page;
 use text::Reading;
 use words::Answer;
 
 // The page of an answer that planning gave, with the output list as it left it.
 fn shown(answer: Answer, out: [u32; 32]) -> Page
-    ensures text { λ r. ⌜ Shows answer out (take (r .n) (r .bytes)) ⌝ }
+    ensures text { λ r. ⌜ PageShows answer out (take (r .n) (r .bytes)) ⌝ }
     ensures room { λ r. ⌜ r .n ≤ 288 ⌝ }
     ensures past { λ r. ⌜ Blank r ⌝ }
 {

@@ -21,8 +21,8 @@ pub record Laid (F : ℕ → ℕ → ℕ) (w h : ℕ) (d d′ : List ℕ) : Type
   pub past : (k : ℕ) → w * h ≤ k → getD d′ k 0 ≡ getD d k 0
 
 -- the image d whose first n bytes are written with those of g; the rest is unchanged
-abbrev pub over : ℕ → List ℕ → List ℕ → List ℕ
-over n g d = g ++ drop n d
+abbrev pub overFront : ℕ → List ℕ → List ℕ → List ℕ
+overFront n g d = g ++ drop n d
 
 -- work was done on the image d where the test t holds, and d was left alone where it does not; r says which, and d′ is d then
 pub record Fitted (t : Bool) (Work : Type 0) (d : List ℕ) (r : Bool) (d′ : List ℕ) : Type 0 where
@@ -32,4 +32,4 @@ pub record Fitted (t : Bool) (Work : Type 0) (d : List ℕ) (r : Bool) (d′ : L
 
 -- the image d was written over with the grid g of n bytes where t holds
 abbrev pub Written : Bool → ℕ → List ℕ → List ℕ → Bool → List ℕ → Type 0
-Written t n g d r d′ = Fitted t (d′ ≡ over n g d) d r d′
+Written t n g d r d′ = Fitted t (d′ ≡ overFront n g d) d r d′

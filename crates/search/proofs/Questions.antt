@@ -17,7 +17,7 @@ use Rattle.rows.specs.Cells.{Same, At, AtMask, AtOrigin, AtSum, chosen}
 use Rattle.rows.proofs.Addition.{same-sym, same-trans, to-cell}
 use Rattle.rows.proofs.Sums.{Rows16, in-y, zero-at}
 use Rattle.extents.specs.Extents.{Greatest, row, column}
-use Rattle.edges.specs.Edges.{plusX, plusY, minusX, minusY, firstOf, secondOf, timesOf, Number}
+use Rattle.edges.specs.Edges.{plusX, plusY, minusX, minusY, firstDirection, secondDirection, timesOf, Number}
 use Rattle.edges.specs.Numbers.{Front, Numbered}
 use Rattle.edges.proofs.Adding.{number-once, number-same, number-sums}
 use Rattle.edges.proofs.Greatest.{front-all}
@@ -45,14 +45,14 @@ module _ (m : ℕ) (t : T (stage m)) where
   row-0 = subst (λ (k : ℕ). AtMask m (low .y .0) k) (low .y-zero) (mask-cells m (low .y .0) (low .y .1) .1 (low .y-in))
 
   width-at : (v : ℕ) → Number 16 (AtMask m) v → (y : ℕ) × AtMask m v y
-  unfolding plusX plusY minusX minusY firstOf secondOf timesOf
+  unfolding plusX plusY minusX minusY firstDirection secondDirection timesOf
   width-at v n =
       let l = n .second .above 0 (low .x .1) column-0 in
       let e : n .x1 ≡ v = omega (arith, n .value) in
       (n .y1, subst (λ (k : ℕ). AtMask m k (n .y1)) e (n .first .cell))
 
   height-at : (v : ℕ) → Number 17 (AtMask m) v → (x : ℕ) × AtMask m x v
-  unfolding plusX plusY minusX minusY firstOf secondOf timesOf
+  unfolding plusX plusY minusX minusY firstDirection secondDirection timesOf
   height-at v n =
       let l = n .second .above (low .y .0) 0 row-0 in
       let e : n .y1 ≡ v = omega (arith, n .value) in
@@ -60,11 +60,11 @@ module _ (m : ℕ) (t : T (stage m)) where
 
   -- the number is not below the reach
   wide-least : (v : ℕ) → Number 16 (AtMask m) v → reach false m ≤ v
-  unfolding plusX plusY minusX minusY firstOf secondOf timesOf
+  unfolding plusX plusY minusX minusY firstDirection secondDirection timesOf
   wide-least v n = let g = mask-reach false m t in let l = n .second .above 0 (low .x .1) column-0 in omega (arith, n .value, n .first .above (g .x) (g .y) (g .cell), g .at)
 
   high-least : (v : ℕ) → Number 17 (AtMask m) v → reach true m ≤ v
-  unfolding plusX plusY minusX minusY firstOf secondOf timesOf
+  unfolding plusX plusY minusX minusY firstDirection secondDirection timesOf
   high-least v n = let g = mask-reach true m t in let l = n .second .above (low .y .0) 0 row-0 in omega (arith, n .value, n .first .above (g .x) (g .y) (g .cell), g .at)
 
   pub sizes-some : (v u : ℕ) → Number 16 (AtMask m) v → Number 17 (AtMask m) u → 1 ≤ v + u

@@ -13,7 +13,7 @@ use Rattle.words.specs.Word.{stageMask}
 use Rattle.shapes.specs.Plan.{planMasks}
 use Rattle.grids.specs.Frame.{free, gridSize}
 use Rattle.grids.specs.Grid.{grid, once}
-use Rattle.planes.specs.Planes.{Kept, Shows, stageFits, PlaneTaken, unpackFits}
+use Rattle.planes.specs.Planes.{PlaneOnly, Shows, stageFits, PlaneTaken, unpackFits}
 use Rattle.planes.proofs.OnGrids.{plane-fits, kept-drop, after-once, grid-stage, grid-unpack}
 use Rattle.frame_grounds.proofs.Sides.{sides}
 use Rattle.plane.specs.Point.{Point}
@@ -25,7 +25,7 @@ use Rattle.turn_steps.specs.Turns.{standingImage, Shown, Past, Room, Tur
 -- ---- planes in images
 
 -- bytes past the plane that are the same are the same past the grid
-pub kept-past : (W H : ℕ) {d d′ : List ℕ} → Kept (W + 15) (H + 15) d d′ → Past W H d d′
+pub kept-past : (W H : ℕ) {d d′ : List ℕ} → PlaneOnly (W + 15) (H + 15) d d′ → Past W H d d′
 kept-past W H k = record { size = k .len; rest = kept-drop W H k }
 
 pub past-same : {W H : ℕ} {d : List ℕ} → Past W H d d

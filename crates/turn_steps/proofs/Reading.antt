@@ -16,12 +16,12 @@ use Rattle.grids.specs.Frame.{free}
 use Rattle.grids.specs.Grid.{grid, put}
 use Rattle.grids.specs.Image.{cells}
 use Rattle.cuts.specs.Cuts.{cutOut}
-use Rattle.ranges.specs.Ranges.{over}
+use Rattle.ranges.specs.Ranges.{overFront}
 use Rattle.planes.specs.Planes.{planeCells}
 use Rattle.cleaning.specs.declared.Operation.{Operation}
 use Rattle.cleaning.specs.declared.Operation.the-variants.{Dilation, Erosion, Opening, Closing}
 use Rattle.cleaning.specs.Operation.{lastGrid, readAt, inTurn}
-use Rattle.turn_steps.specs.Cutting.{ahead, CutAway}
+use Rattle.turn_steps.specs.Cutting.{distance, CutAway}
 
 -- as far the other way
 back : (f : ℕ) → f ≤ 30 → negℤ (pos f -ℤ pos 15) ≡ pos (30 - f) -ℤ pos 15
@@ -42,7 +42,7 @@ back f h = ⊎-elim
     (lt-or-le f 15)
 
 pub read-ahead : (op : Operation) (w : ℕ) (p : Point) → placeX w ≤ 30 → placeY w ≤ 30
-    → p +ᵖ (pos (ahead op (placeX w)) -ℤ pos 15, pos (ahead op (placeY w)) -ℤ pos 15) ≡ readAt op (placed w) p
+    → p +ᵖ (pos (distance op (placeX w)) -ℤ pos 15, pos (distance op (placeY w)) -ℤ pos 15) ≡ readAt op (placed w) p
 unfolding negᵖ
 read-ahead Dilation w p h k = ap (λ q. p +ᵖ q) (ap₂ (λ (x y : ℤ). (x, y)) (sym (back (placeX w) h)) (sym (back (placeY w) k)))
 read-ahead Erosion w p h k = refl
@@ -52,7 +52,7 @@ read-ahead Closing w p h k = +ᵖ-origin p
 -- what is cut out of the last grid
 pub cut-turn : (op : Operation) (plan : List ℕ) (W H : ℕ) (f g : List ℕ) (w : ℕ) → planOffset plan ≡ placed w → placeX w ≤ 30 → placeY w ≤ 30
     → g ≡ lastGrid op W H (planMasks plan) (put W H f)
-    → cutOut free W H (W + 15) (H + 15) (ahead op (placeX w)) (ahead op (placeY w)) g ≡ inTurn op W H f (planOffset plan) (planMasks plan)
+    → cutOut free W H (W + 15) (H + 15) (distance op (placeX w)) (distance op (placeY w)) g ≡ inTurn op W H f (planOffset plan) (planMasks plan)
 unfolding cutOut inTurn put
 cut-turn op plan W H f g w d h k e =
     ap (cells W H) (fun-ext (λ p.
@@ -65,14 +65,14 @@ cutAt W H a b p = cutOut free W H (W + 15) (H + 15) a b (planeCells (W + 15) (H 
 
 -- the cut from one image into the other, at the distances that were worked out
 module _ {op : Operation} (place : ℕ) {W H t a b : ℕ} {i j : List ℕ} where
-  pub away-first : {j′ : List ℕ} → a ≡ ahead op (placeX place) → b ≡ ahead op (placeY place) → t % 2 ≡ 0 → j′ ≡ over (W * H) (cutAt W H a b i) j → CutAway op place W H t i j i j′
+  pub away-first : {j′ : List ℕ} → a ≡ distance op (placeX place) → b ≡ distance op (placeY place) → t % 2 ≡ 0 → j′ ≡ overFront (W * H) (cutAt W H a b i) j → CutAway op place W H t i j i j′
   away-first p q e c = let v = eq-eqb (t % 2) 0 e in record { from = rw v; to = rw (v, sym p, sym q) c }
 
-  pub away-second : {i′ : List ℕ} → a ≡ ahead op (placeX place) → b ≡ ahead op (placeY place) → (t % 2 ≡ 0 → ⊥) → i′ ≡ over (W * H) (cutAt W H a b j) i → CutAway op place W H t i j i′ j
+  pub away-second : {i′ : List ℕ} → a ≡ distance op (placeX place) → b ≡ distance op (placeY place) → (t % 2 ≡ 0 → ⊥) → i′ ≡ overFront (W * H) (cutAt W H a b j) i → CutAway op place W H t i j i′ j
   away-second p q e c = let v = ne-eqb (t % 2) 0 e in record { from = rw v; to = rw (v, sym p, sym q) c }
 
 -- the distances are small
-pub ahead-small : (op : Operation) (f : ℕ) → f ≤ 30 → ahead op f ≤ 30
+pub ahead-small : (op : Operation) (f : ℕ) → f ≤ 30 → distance op f ≤ 30
 ahead-small Dilation f h = omega arith
 ahead-small Erosion f h = omega arith
 ahead-small Opening f h = omega arith

@@ -5,7 +5,7 @@ use mathlib.Core.List.{List}
 use Prim.Native.Nat.{ℕ, _+_, _-_, _*_}
 use Rattle.words.specs.Word.{placeX, placeY}
 use Rattle.grids.specs.Frame.{free}
-use Rattle.ranges.specs.Ranges.{over}
+use Rattle.ranges.specs.Ranges.{overFront}
 use Rattle.cuts.specs.Cuts.{cutOut}
 use Rattle.planes.specs.Planes.{planeCells}
 use Rattle.cleaning.specs.declared.Operation.{Operation}
@@ -14,17 +14,17 @@ use Rattle.cleaning.specs.Cleaning.{resultImage}
 use Rattle.turn_steps.specs.Turns.{standingImage}
 
 -- 15 more than what is added to x, or to y, where the place's field for it is f, at most 30
-abbrev pub ahead : Operation → ℕ → ℕ
-ahead Dilation f = 30 - f
-ahead Erosion f = f
-ahead Opening f = 15
-ahead Closing f = 15
+abbrev pub distance : Operation → ℕ → ℕ
+distance Dilation f = 30 - f
+distance Erosion f = f
+distance Opening f = 15
+distance Closing f = 15
 
 -- W columns and H rows cut out of the cells of the plane p, at the distances that the place's fields give
 abbrev pub awayCells : Operation → ℕ → ℕ → ℕ → List ℕ → List ℕ
-awayCells op place W H p = cutOut free W H (W + 15) (H + 15) (ahead op (placeX place)) (ahead op (placeY place)) (planeCells (W + 15) (H + 15) p)
+awayCells op place W H p = cutOut free W H (W + 15) (H + 15) (distance op (placeX place)) (distance op (placeY place)) (planeCells (W + 15) (H + 15) p)
 
 -- after t stages the result is cut from the image in which the last plane stands, which is unchanged, into the other
 pub record CutAway (op : Operation) (place W H t : ℕ) (i j i′ j′ : List ℕ) : Type 0 where
   pub from : standingImage t i′ j′ ≡ standingImage t i j
-  pub to : resultImage t i′ j′ ≡ over (W * H) (awayCells op place W H (standingImage t i j)) (resultImage t i j)
+  pub to : resultImage t i′ j′ ≡ overFront (W * H) (awayCells op place W H (standingImage t i j)) (resultImage t i j)

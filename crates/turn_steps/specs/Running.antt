@@ -16,13 +16,13 @@ pub record Runnable (plan : List ℕ) (W H : ℕ) (i j : List ℕ) : Type 0 wher
   pub room : Room W H i j
 
 -- the images after the last stage, and the result cut from there
-pub record Through (op : Operation) (plan : List ℕ) (W H : ℕ) (i j : List ℕ) (r : ℕ) (i′ j′ : List ℕ) : Type 0 where
+pub record TurnsDone (op : Operation) (plan : List ℕ) (W H : ℕ) (i j : List ℕ) (r : ℕ) (i′ j′ : List ℕ) : Type 0 where
   pub first : List ℕ
   pub second : List ℕ
   pub ended : Ended op plan W H i j r first second
   pub away : CutAway op (getD plan 1 0) W H r first second i′ j′
 
 -- the operation was run; what cannot be run changes nothing
-pub record Ran (op : Operation) (plan : List ℕ) (W H : ℕ) (i j : List ℕ) (r : ℕ) (i′ j′ : List ℕ) : Type 0 where
-  pub through : Runnable plan W H i j → Through op plan W H i j r i′ j′
+pub record TurnsRun (op : Operation) (plan : List ℕ) (W H : ℕ) (i j : List ℕ) (r : ℕ) (i′ j′ : List ℕ) : Type 0 where
+  pub through : Runnable plan W H i j → TurnsDone op plan W H i j r i′ j′
   pub unchanged : (Runnable plan W H i j → ⊥) → (r ≡ 0) × (i′ ≡ i) × (j′ ≡ j)

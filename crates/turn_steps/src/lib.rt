@@ -6,7 +6,7 @@ mod turns;
 use cleaning::Operation;
 ghost use mathlib.Core.Path.{_≡_};
 ghost use mathlib.Core.Bool.{true, false};
-ghost use Rattle.turn_steps.specs.Running.{Runnable, Ran};
+ghost use Rattle.turn_steps.specs.Running.{Runnable, TurnsRun};
 
 // Whether the plan list and the images can be run: 2 to 32 words, a place within its range, sides that pass, and room for the grid in both images.
 fn runnable(plan: &[u32], w: usize, h: usize, first: &[u8], second: &[u8]) -> bool
@@ -49,7 +49,7 @@ pub fn run(
     first: &mut [u8],
     second: &mut [u8],
 ) -> usize
-    ensures { λ r. ⌜ Ran op (now (plan .entry)) w h (now (first .entry)) (now (second .entry)) r (now (first .exit)) (now (second .exit)) ⌝ }
+    ensures { λ r. ⌜ TurnsRun op (now (plan .entry)) w h (now (first .entry)) (now (second .entry)) r (now (first .exit)) (now (second .exit)) ⌝ }
 {
     if !runnable(plan, w, h, first, second) {
         return 0;

@@ -3,13 +3,13 @@ use cleaning::Operation;
 ghost use mathlib.Core.Path.{_≡_};
 ghost use Prim.Native.Nat.{_≤_};
 ghost use Rattle.words.specs.Word.{placeX, placeY};
-ghost use Rattle.turn_steps.specs.Cutting.{ahead as aheadOf, CutAway};
+ghost use Rattle.turn_steps.specs.Cutting.{distance, CutAway};
 ghost use Rattle.turn_steps.specs.Turns.{Room};
 
 // 15 more than what is added to a coordinate of the result to find the cell that is read, from the place's field for that coordinate.
 fn ahead(op: Operation, field: u32) -> usize
     requires { ⌜ field ≤ 30 ⌝ }
-    ensures { λ r. ⌜ r ≡ aheadOf op field ⌝ }
+    ensures { λ r. ⌜ r ≡ distance op field ⌝ }
 {
     let back = 30 - field;
     match op {

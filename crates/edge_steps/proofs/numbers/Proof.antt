@@ -3,7 +3,7 @@ use mathlib.Core.Path.{_≡_, refl, _∙_}
 use Prim.Native.Nat.{ℕ, _+_, _*_, _≤_, _<_, _-_}
 use lib.ListN.{length, getD, length-set}
 use Rattle.rows.proofs.Known.{rows16}
-use Rattle.edges.specs.Edges.{firstOf, secondOf, middleOf, timesOf}
+use Rattle.edges.specs.Edges.{firstDirection, secondDirection, middleOf, timesOf}
 use Rattle.edges.proofs.Directions.{inside}
 use Rattle.edges.proofs.Storing.{stored}
 use Rattle.edges.proofs.Greatest.{fits, numbered-none, numbered-all}
@@ -14,7 +14,7 @@ use Rattle.edge_steps.proofs.numbers.Tie as tie
 
 abbrev Inv-loop : tie.InvT-loop
 Inv-loop n s r₀ first second middle times i₀ r i = (i ≤ 18) × ((length r ≡ 18)
-    × ((k : ℕ) → k < i → getD r k 0 + (timesOf k * getD s (middleOf k) 0 + 128) ≡ getD s (firstOf k) 0 + getD s (secondOf k) 0 + timesOf k * 64))
+    × ((k : ℕ) → k < i → getD r k 0 + (timesOf k * getD s (middleOf k) 0 + 128) ≡ getD s (firstDirection k) 0 + getD s (secondDirection k) 0 + timesOf k * 64))
 
 abbrev μ-loop : tie.MeasureT-loop
 μ-loop n s r₀ first second middle times i₀ r i = 18 - i
@@ -41,45 +41,45 @@ array-read-number : tie.Need-array-read-number Inv-loop μ-loop
 array-read-number c = search needs
 
 cast-number : tie.Need-cast-number Inv-loop μ-loop
-unfolding firstOf secondOf middleOf timesOf
+unfolding firstDirection secondDirection middleOf timesOf
 cast-number c = let k = inside (c .before .loop .i) (omega arith) in search needs
 
 mul-number : tie.Need-mul-number Inv-loop μ-loop
-unfolding firstOf secondOf middleOf timesOf
+unfolding firstDirection secondDirection middleOf timesOf
 mul-number c = let k = inside (c .before .loop .i) (omega arith) in search needs
 
 array-read-number-2 : tie.Need-array-read-number-2 Inv-loop μ-loop
-unfolding firstOf secondOf middleOf timesOf
+unfolding firstDirection secondDirection middleOf timesOf
 array-read-number-2 c = let k = inside (c .before .loop .i) (omega arith) in search needs
 
 array-read-number-3 : tie.Need-array-read-number-3 Inv-loop μ-loop
 array-read-number-3 c = search needs
 
 cast-number-2 : tie.Need-cast-number-2 Inv-loop μ-loop
-unfolding firstOf secondOf middleOf timesOf
+unfolding firstDirection secondDirection middleOf timesOf
 cast-number-2 c = let k = inside (c .before .loop .i) (omega arith) in search needs
 
 mul-number-2 : tie.Need-mul-number-2 Inv-loop μ-loop
-unfolding firstOf secondOf middleOf timesOf
+unfolding firstDirection secondDirection middleOf timesOf
 mul-number-2 c = let k = inside (c .before .loop .i) (omega arith) in search needs
 
 array-read-number-4 : tie.Need-array-read-number-4 Inv-loop μ-loop
-unfolding firstOf secondOf middleOf timesOf
+unfolding firstDirection secondDirection middleOf timesOf
 array-read-number-4 c = let k = inside (c .before .loop .i) (omega arith) in search needs
 
 array-read-number-5 : tie.Need-array-read-number-5 Inv-loop μ-loop
 array-read-number-5 c = search needs
 
 cast-number-3 : tie.Need-cast-number-3 Inv-loop μ-loop
-unfolding firstOf secondOf middleOf timesOf
+unfolding firstDirection secondDirection middleOf timesOf
 cast-number-3 c = let k = inside (c .before .loop .i) (omega arith) in search needs
 
 mul-number-3 : tie.Need-mul-number-3 Inv-loop μ-loop
-unfolding firstOf secondOf middleOf timesOf
+unfolding firstDirection secondDirection middleOf timesOf
 mul-number-3 c = let k = inside (c .before .loop .i) (omega arith) in search needs
 
 array-read-number-6 : tie.Need-array-read-number-6 Inv-loop μ-loop
-unfolding firstOf secondOf middleOf timesOf
+unfolding firstDirection secondDirection middleOf timesOf
 array-read-number-6 c = let k = inside (c .before .loop .i) (omega arith) in search needs
 
 mul-number-4 : tie.Need-mul-number-4 Inv-loop μ-loop
@@ -89,7 +89,7 @@ array-read-number-7 : tie.Need-array-read-number-7 Inv-loop μ-loop
 array-read-number-7 c = search needs
 
 number-requires : tie.Need-number-requires Inv-loop μ-loop
-unfolding firstOf secondOf middleOf timesOf
+unfolding firstDirection secondDirection middleOf timesOf
 number-requires c κs =
     let e = c .before .before in
     let st = e .before .before .before in
@@ -106,7 +106,7 @@ loop-less : tie.Need-loop-less Inv-loop μ-loop
 loop-less c = search needs
 
 loop-again : tie.Need-loop-again Inv-loop μ-loop
-unfolding firstOf secondOf middleOf timesOf
+unfolding firstDirection secondDirection middleOf timesOf
 loop-again c =
     let h = c .before .before .loop in
     let s = c .before .before .before .before .tops .result in
@@ -114,7 +114,7 @@ loop-again c =
       omega arith,
       (
         length-set (h .r) (h .i) v ∙ h .inv .1 .0,
-        stored (λ k q. q + (timesOf k * getD s (middleOf k) 0 + 128) ≡ getD s (firstOf k) 0 + getD s (secondOf k) 0 + timesOf k * 64) (h .r) (h .i) v (omega (arith, h .inv .1 .0))
+        stored (λ k q. q + (timesOf k * getD s (middleOf k) 0 + 128) ≡ getD s (firstDirection k) 0 + getD s (secondDirection k) 0 + timesOf k * 64) (h .r) (h .i) v (omega (arith, h .inv .1 .0))
             (h .inv .1 .1) (c .number .ensures),
       ),
     )

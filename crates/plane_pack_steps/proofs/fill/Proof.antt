@@ -6,13 +6,13 @@ use Prim.Native.Nat.{ℕ, _+_, _*_, _/_, _%_, _-_, _≤_}
 use native.Mathlib.Nat.{add-mul}
 use lib.ListN.{length}
 use Rattle.ranges.proofs.Ranges.{ranged-part}
-use Rattle.planes.specs.Planes.{byteRows, planeSize, Kept}
+use Rattle.planes.specs.Planes.{byteRows, planeSize, PlaneOnly}
 use Rattle.plane_pack_steps.proofs.PackRows.{Until, until-none, until-more, until-all, group-fits}
 use Rattle.plane_pack_steps.proofs.fill.Statement.{statement}
 use Rattle.plane_pack_steps.proofs.fill.Tie as tie
 
 abbrev Inv-loop : tie.InvT-loop
-Inv-loop f dst₀ w h gw gh outside s n v p₀ q₀ y₀ dst p q y = (y ≤ h + 7) × (y % 8 ≡ 0) × (p ≡ (y / 8 + 1) * (gw + 2) + 2) × (q ≡ y * w) × (planeSize gw gh ≤ length dst) × Until outside w h gw gh y f dst × Kept gw gh dst₀ dst
+Inv-loop f dst₀ w h gw gh outside s n v p₀ q₀ y₀ dst p q y = (y ≤ h + 7) × (y % 8 ≡ 0) × (p ≡ (y / 8 + 1) * (gw + 2) + 2) × (q ≡ y * w) × (planeSize gw gh ≤ length dst) × Until outside w h gw gh y f dst × PlaneOnly gw gh dst₀ dst
 
 abbrev μ-loop : tie.MeasureT-loop
 μ-loop f dst₀ w h gw gh outside s n v p₀ q₀ y₀ dst p q y = h - y

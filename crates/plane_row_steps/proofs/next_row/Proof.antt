@@ -4,7 +4,7 @@ use borrow.Author.Needs.{needs}
 use mathlib.Core.Path.{sym, _∙_}
 use Prim.Native.Nat.{_+_}
 use lib.ListN.{length}
-use Rattle.plane_pass_steps.specs.Passes.{rowOf}
+use Rattle.plane_pass_steps.specs.Passes.{maskRowOf}
 use Rattle.plane_row_steps.proofs.RowPasses.{stands, some-set, next-row, next-none}
 use Rattle.plane_row_steps.proofs.Rooms.{reads-there}
 use Rattle.plane_row_steps.proofs.next_row.Statement.{statement}
@@ -17,7 +17,7 @@ returns : tie.Need-returns
 returns c =
     let a = c .before .before .before .before .args in
     let e = c .before .before .before .before .pre .1 in
-    next-none (a .erode) (a .s .now) (a .o) (a .c) (a .mask) (rowOf (a .second)) (a .d .now) (rw e at (sym (c .before .first .ensures .0) ∙ c .if1 .taken))
+    next-none (a .erode) (a .s .now) (a .o) (a .c) (a .mask) (maskRowOf (a .second)) (a .d .now) (rw e at (sym (c .before .first .ensures .0) ∙ c .if1 .taken))
 
 read-requires : tie.Need-read-requires
 read-requires c κs = search needs
@@ -54,7 +54,7 @@ returns-2 c =
     let u = p .ensures .1 in
     let v = q .ensures .1 in
     let w = r .ensures .1 in
-    next-row (a .erode) (a .s .now) (a .o) (a .c) (a .mask) (rowOf (a .second)) (a .o + p .result) (a .o + q .result) (a .o + r .result)
+    next-row (a .erode) (a .s .now) (a .o) (a .c) (a .mask) (maskRowOf (a .second)) (a .o + p .result) (a .o + q .result) (a .o + r .result)
     (rw e at (some-set (f .0) (f .1) (c .before .before .before .before .before .before .before .if1 .left)))
     (rw e at (stands (a .erode) (a .o) (a .mask) (a .b) 0 (f .0) (p .ensures .0))) (rw e at (stands (a .erode) (a .o) (a .mask) (a .b) 1 (f .0) (q .ensures .0))) (rw e at (stands (a .erode) (a .o) (a .mask) (a .b) 2 (f .0) (r .ensures .0)))
     (c .before .before .join .ensures .done (reads-there (length (a .d .now)) (length (a .s .now)) (a .c) (a .o + p .result) (a .o + q .result) (a .o + r .result) (omega arith) (omega arith) (omega arith)))

@@ -1,7 +1,7 @@
 -- Each arm of the match is one operation.
 use borrow.Author.Needs.{needs}
 use mathlib.Core.Path.{sym, ap}
-use Rattle.turn_steps.specs.Cutting.{ahead}
+use Rattle.turn_steps.specs.Cutting.{distance}
 use Rattle.turn_steps.proofs.results.ahead.Statement.{statement}
 use Rattle.turn_steps.proofs.results.ahead.Tie as tie
 
@@ -24,7 +24,7 @@ enum-told-4 : tie.Need-enum-told-4
 enum-told-4 c = search needs
 
 returns : tie.Need-returns
-returns c = ap (λ o. ahead o (c .before .before .args .field)) (sym (c .enum-told .given .1))
+returns c = ap (λ o. distance o (c .before .before .args .field)) (sym (c .enum-told .given .1))
 
 returns-2 : tie.Need-returns-2
 returns-2 c = search needs
