@@ -1,4 +1,5 @@
--- The branch of a node: a number that is needed, and the masks that have it, tried from the last. The list shrinks, since what completes the sum has the last of it or has it not.
+-- The branch of a node: a number that is needed, and the masks that have it, tried from the last. The list shrinks, since what completes the sum has the
+-- last of it or has it not.
 use mathlib.Core.Path.{_≡_, refl, sym, ap, subst, _∙_}
 use mathlib.Core.Bool.{Bool}
 use mathlib.Core.Logic.{_⊎_, inl, inr, ⊎-elim}
@@ -90,13 +91,15 @@ module _ (permitted : ℕ → Bool) (A Y : Cells) (xs : List ℕ) (n k : ℕ) wh
 
   module _ (num : ℕ → ℕ → ℕ) (T′ : Cells) (need : List ℕ) (o : Open permitted num A Y T′ need) where
     -- rule S: a mask that was tried over a longer list replaces m
-    pub replaced-gone : (r m j : ℕ) → r ≤ j → j < n → Spent permitted A Y xs n r k → T (permitted (getD xs j 0)) → Replaces T′ m (getD xs j 0) → NoneThrough permitted A Y xs r k m
+    pub replaced-gone : (r m j : ℕ) → r ≤ j → j < n → Spent permitted A Y xs n r k → T (permitted (getD xs j 0)) → Replaces T′ m (getD xs j 0)
+        → NoneThrough permitted A Y xs r k m
     replaced-gone r m j p q t b e = record {
       no = λ L f a l. t .gone j p q .no L (replaced permitted num A Y T′ need o m (getD xs j 0) b e L f) (λ s h. among-more xs r n s (omega arith) (a s h)) l;
     }
 
     -- a number is needed that none of those left has
-    pub branch-end : (i r : ℕ) → i < 18 → 0 < getD need i 0 → ((m : ℕ) → T (permitted m) → Among xs r m → num i m ≡ 0) → Spent permitted A Y xs n r k → None permitted A Y xs n k
+    pub branch-end : (i r : ℕ) → i < 18 → 0 < getD need i 0 → ((m : ℕ) → T (permitted m) → Among xs r m → num i m ≡ 0) → Spent permitted A Y xs n r k
+        → None permitted A Y xs n k
     branch-end i r l p z t = record {
       no = λ L f a q.
           let e = none-summed (num i) L (λ m h. z m (f .masks m h) (t .left L f a q m h)) in
@@ -105,9 +108,11 @@ module _ (permitted : ℕ → Bool) (A Y : Cells) (xs : List ℕ) (n k : ℕ) wh
     }
 
     -- the list was drawn from another, of which it has all that fit
-    pub drawn : (ys : List ℕ) (u : ℕ) → ((m : ℕ) → T (permitted m) → Among ys u m → Fit num need m → Among xs n m) → None permitted A Y xs n k → None permitted A Y ys u k
+    pub drawn : (ys : List ℕ) (u : ℕ) → ((m : ℕ) → T (permitted m) → Among ys u m → Fit num need m → Among xs n m) → None permitted A Y xs n k
+        → None permitted A Y ys u k
     drawn ys u g a = record {
-      no = λ L f b q. a .no L f (λ m h. g m (f .masks m h) (b m h) (record { below = λ i l. let c = o .counts L f i l in let d = each-below (num i) L m h in omega arith })) q;
+      no = λ L f b q. a .no L f (λ m h. g m (f .masks m h) (b m h)
+          (record { below = λ i l. let c = o .counts L f i l in let d = each-below (num i) L m h in omega arith })) q;
     }
 
     -- k masks do not reach what is needed of a number of which each has 2 at most

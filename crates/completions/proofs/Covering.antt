@@ -1,4 +1,5 @@
--- Sums and residues by a mask: cutting to the window on the way loses nothing, since coordinates only grow; and what completes a sum makes up the target with the residue.
+-- Sums and residues by a mask: cutting to the window on the way loses nothing, since coordinates only grow; and what completes a sum makes up the target
+-- with the residue.
 use mathlib.Core.Path.{_≡_, refl, sym, ap, subst, _∙_}
 use mathlib.Core.List.{List, _∷_}
 use Prim.Native.Nat.{ℕ, zero, suc, _+_, _*_}
@@ -58,10 +59,12 @@ unfolding chosen
 next-mask X path r j h = cut-same _ _ r (same-trans sum-assoc (sum-both same-refl sum-comm)) h
 
 pub carried-more : (X : Cells) (path z r : List ℕ) (j : ℕ) → Carried X path z j → CutTo (Sum (At z) (AtMask (getD path j 0))) r → Carried X path r (j + 1)
-carried-more X path z r j f g = subst (Carried X path r) (sym (add-one j)) (next-mask X path r j (cut-more (Sum X (AtSum (chosen path j))) (AtMask (getD path j 0)) z r f g))
+carried-more X path z r j f g = subst (Carried X path r) (sym (add-one j))
+    (next-mask X path r j (cut-more (Sum X (AtSum (chosen path j))) (AtMask (getD path j 0)) z r f g))
 
 -- at the end: what lies in the window is all of it
-pub carried-end : (X : Cells) (path target z₀ z : List ℕ) (len : ℕ) → Rows16 target → CutTo X z₀ → Carried (At z₀) path z len → Same (At target) (Sum X (AtSum (chosen path len)))
+pub carried-end : (X : Cells) (path target z₀ z : List ℕ) (len : ℕ) → Rows16 target → CutTo X z₀ → Carried (At z₀) path z len → Same (At target)
+    (Sum X (AtSum (chosen path len)))
     → Same (At target) (At z)
 carried-end X path target z₀ z len known g h e = let f = cut-more X (AtSum (chosen path len)) z₀ z g h in record {
   to = λ x y h. f .from x y (e .to x y h) (in-x target known x y h) (in-y target known x y h);
@@ -69,8 +72,10 @@ carried-end X path target z₀ z len known g h e = let f = cut-more X (AtSum (ch
 }
 
 -- where the target is the sum the residue has (0, 0)
-pub origin-left : (target rest path : List ℕ) (len : ℕ) → Same (At rest) (Residue (At target) (AtSum (chosen path len))) → Same (At target) (AtSum (chosen path len)) → At rest 0 0
-origin-left target rest path len left e = left .from 0 0 (record { all = λ x y c. to-cell (At target) {x = x} {y = y} (omega arith) (omega arith) (e .from x y c) })
+pub origin-left : (target rest path : List ℕ) (len : ℕ) → Same (At rest) (Residue (At target) (AtSum (chosen path len))) → Same (At target)
+    (AtSum (chosen path len)) → At rest 0 0
+origin-left target rest path len left e = left .from 0 0
+    (record { all = λ x y c. to-cell (At target) {x = x} {y = y} (omega arith) (omega arith) (e .from x y c) })
 
 -- rows with the one cell (0, 0)
 abbrev pub start : List ℕ
@@ -106,7 +111,8 @@ module _ (target rest path z : List ℕ) (len : ℕ) (known : Rows16 target) (h 
 
 -- ---- a mask in the place of another
 
-pub replacing : (t own other : List ℕ) (m b : ℕ) → Rows16 t → bitAnd b m ≡ m → CutTo (Residue (At t) (AtMask m)) own → CutTo (Residue (At t) (AtMask b)) other → Same (At own) (At other)
+pub replacing : (t own other : List ℕ) (m b : ℕ) → Rows16 t → bitAnd b m ≡ m → CutTo (Residue (At t) (AtMask m)) own → CutTo
+    (Residue (At t) (AtMask b)) other → Same (At own) (At other)
     → (i j : ℕ) → AtMask m i j → Replaces (At t) m b
 replacing t own other m b known e f g s i j c = record {
   cells = λ x y h. record { column = h .column; row = h .row; set = and-on-l b m (3 * y + x) (ap (λ (n : ℕ). bit n (3 * y + x)) e ∙ h .set) };

@@ -21,9 +21,17 @@ pub record FittedTo (nums need cand list : List ℕ) (n j : ℕ) : Type 0 where
 
 module _ (nums need cand : List ℕ) where
   pub fitted-none : (list : List ℕ) → length list ≡ 512 → FittedTo nums need cand list 0 0
-  fitted-none list l = record { few = omega arith; long = l; all = λ m b a f. let c = a .before in absurd (omega arith); only = λ m a. let c = a .before in absurd (omega arith); fit = λ m a. let c = a .before in absurd (omega arith) }
+  fitted-none list l = record {
+    few = omega arith;
+    long = l;
+    all = λ m b a f. let c = a .before in absurd (omega arith);
+    only = λ m a. let c = a .before in
+        absurd (omega arith);
+    fit = λ m a. let c = a .before in absurd (omega arith);
+  }
 
-  pub fitted-more : (list : List ℕ) (n j k v : ℕ) → j < 512 → v ≡ getD cand j 0 → k ≤ 1 → (1 ≤ k → (v < 512) × Fit (numberIn nums) need v) → (v < 512 → Fit (numberIn nums) need v → 1 ≤ k)
+  pub fitted-more : (list : List ℕ) (n j k v : ℕ) → j < 512 → v ≡ getD cand j 0 → k ≤ 1 → (1 ≤ k → (v < 512) × Fit (numberIn nums) need v)
+      → (v < 512 → Fit (numberIn nums) need v → 1 ≤ k)
       → FittedTo nums need cand list n j → FittedTo nums need cand (set list n v) (n + k) (j + 1)
   fitted-more list n j k v l e one fits fit h =
       let few = h .few in
@@ -34,7 +42,8 @@ module _ (nums need cand : List ℕ) where
         all = λ m b a f. ⊎-elim
             (λ w. put-kept list n k v m (h .all m b w f))
             (λ w. let d : m ≡ v = w ∙ sym e in
-            subst (λ (s : ℕ). Among (set list n v) (n + k) s) (sym d) (put-new list n k v (omega arith) (fit (subst (λ (s : ℕ). s < 512) d b) (subst (Fit (numberIn nums) need) d f))))
+            subst (λ (s : ℕ). Among (set list n v) (n + k) s) (sym d) (put-new list n k v (omega arith)
+            (fit (subst (λ (s : ℕ). s < 512) d b) (subst (Fit (numberIn nums) need) d f))))
             (among-one cand j m a);
         only = λ m a. ⊎-elim
             (λ w. among-more cand j (j + 1) m (omega arith) (h .only m w))
@@ -69,7 +78,8 @@ module _ (nums xs : List ℕ) (i : ℕ) where
   }
 
   -- k is 1 where v has the number, and 0 where it has not
-  pub split-more : (list other : List ℕ) (p q j k v : ℕ) → j < 512 → v ≡ getD xs j 0 → k ≤ 1 → (1 ≤ k → 0 < numberIn nums i v) → (k ≡ 0 → v < 512 → numberIn nums i v ≡ 0)
+  pub split-more : (list other : List ℕ) (p q j k v : ℕ) → j < 512 → v ≡ getD xs j 0 → k ≤ 1 → (1 ≤ k → 0 < numberIn nums i v)
+      → (k ≡ 0 → v < 512 → numberIn nums i v ≡ 0)
       → SplitTo nums xs i list other p q j → SplitTo nums xs i (set list p v) (set other q v) (p + (1 - k)) (q + k) (j + 1)
   split-more list other p q j k v l e one some-of zero-of h =
       let few = h .few in
@@ -87,7 +97,8 @@ module _ (nums xs : List ℕ) (i : ℕ) where
             (lt-or-le k 1))
             (among-one xs j m a);
         only = λ m a. ⊎-elim
-            (λ w. ⊎-elim (λ u. among-more xs j (j + 1) m (omega arith) (h .only m (inl u))) (λ u. last m (u .1)) (put-was list p (1 - k) v m (omega arith) (omega arith) w))
+            (λ w. ⊎-elim (λ u. among-more xs j (j + 1) m (omega arith) (h .only m (inl u))) (λ u. last m (u .1))
+            (put-was list p (1 - k) v m (omega arith) (omega arith) w))
             (λ w. ⊎-elim (λ u. among-more xs j (j + 1) m (omega arith) (h .only m (inr u))) (λ u. last m (u .1)) (put-was other q k v m (omega arith) one w))
             a;
         without = λ m b a. ⊎-elim
@@ -95,7 +106,8 @@ module _ (nums xs : List ℕ) (i : ℕ) where
             (λ u. let g = u .0 in let d = u .1 in
             subst (λ (s : ℕ). numberIn nums i s ≡ 0) (sym d) (zero-of (omega arith) (subst (λ (s : ℕ). s < 512) d b)))
             (put-was list p (1 - k) v m (omega arith) (omega arith) a);
-        having = λ m a. ⊎-elim (h .having m) (λ u. subst (λ (s : ℕ). 0 < numberIn nums i s) (sym (u .1)) (some-of (u .0))) (put-was other q k v m (omega arith) one a);
+        having = λ m a. ⊎-elim (h .having m) (λ u. subst (λ (s : ℕ). 0 < numberIn nums i s) (sym (u .1)) (some-of (u .0)))
+            (put-was other q k v m (omega arith) one a);
       }
     where
       last : (m : ℕ) → m ≡ v → Among xs (j + 1) m
@@ -112,16 +124,27 @@ pub record AppendedTo (list₀ list other : List ℕ) (p t : ℕ) : Type 0 where
 
 module _ (list₀ other : List ℕ) (p : ℕ) where
   pub appended-none : length list₀ ≡ 512 → AppendedTo list₀ list₀ other p 0
-  appended-none l = record { long = l; first = λ m a. a; back = λ m a. a; behind = λ m a. let c = a .before in absurd (omega arith); after = λ u l. absurd (omega arith); only = λ m a. inl (among-more list₀ (p + 0) p m (omega arith) a) }
+  appended-none l = record {
+    long = l;
+    first = λ m a. a;
+    back = λ m a. a;
+    behind = λ m a. let c = a .before in absurd (omega arith);
+    after = λ u l. absurd
+        (omega arith);
+    only = λ m a. inl (among-more list₀ (p + 0) p m (omega arith) a);
+  }
 
-  pub appended-more : (list : List ℕ) (t : ℕ) → p + t < 512 → AppendedTo list₀ list other p t → AppendedTo list₀ (set list (p + t) (getD other t 0)) other p (t + 1)
+  pub appended-more : (list : List ℕ) (t : ℕ) → p + t < 512 → AppendedTo list₀ list other p t → AppendedTo list₀
+      (set list (p + t) (getD other t 0)) other p (t + 1)
   appended-more list t l h = record {
     long = length-set list (p + t) (getD other t 0) ∙ h .long;
     first = λ m a. set-above list p (p + t) (getD other t 0) m (omega arith) (h .first m a);
     back = λ m a. h .back m (set-below list p (p + t) (getD other t 0) m (omega arith) a);
-    behind = λ m a. let long = h .long in let e : p + t + 1 ≡ p + (t + 1) = omega arith in subst (λ (n : ℕ). Among (set list (p + t) (getD other t 0)) n m) e (⊎-elim
+    behind = λ m a. let long = h .long in let e : p + t + 1 ≡ p + (t + 1) = omega arith in subst
+        (λ (n : ℕ). Among (set list (p + t) (getD other t 0)) n m) e (⊎-elim
         (λ w. put-kept list (p + t) 1 (getD other t 0) m (h .behind m w))
-        (λ w. subst (λ (s : ℕ). Among (set list (p + t) (getD other t 0)) (p + t + 1) s) (sym w) (put-new list (p + t) 1 (getD other t 0) (omega arith) (omega arith)))
+        (λ w. subst (λ (s : ℕ). Among (set list (p + t) (getD other t 0)) (p + t + 1) s) (sym w)
+        (put-new list (p + t) 1 (getD other t 0) (omega arith) (omega arith)))
         (among-one other t m a));
     after = λ u q.
         let long = h .long in
@@ -148,7 +171,8 @@ pub divided-none : (nums need cand list : List ℕ) → (length cand ≤ 512 →
     → Divided nums need cand list list (record { number = 18; without = 0; count = 0 })
 divided-none nums need cand list f = record { bound = omega arith; parts = λ l. absurd (omega arith); none = λ _. f; still = λ _. (refl, (refl, refl)) }
 
-pub divided-by : (nums need cand list some list′ : List ℕ) (n i p : ℕ) → i < 18 → length cand ≤ 512 → 0 < getD need i 0 → Fitting nums need cand (length cand) some n
+pub divided-by : (nums need cand list some list′ : List ℕ) (n i p : ℕ) → i < 18 → length cand ≤ 512 → 0 < getD need i 0 → Fitting nums need cand
+    (length cand) some n
     → (length list ≡ 512 → Split nums some n i list′ p) → Divided nums need cand list list′ (record { number = i; without = p; count = n })
 divided-by nums need cand list some list′ n i p l room z f split = record {
   bound = omega arith;

@@ -79,10 +79,14 @@ in-residue permitted A Y L f x y h = record {
 residue-sum : (A Y : Cells) (m : ℕ) → Same (Residue (Residue A Y) (AtMask m)) (Residue A (Sum Y (AtMask m)))
 residue-sum A Y m = record {
   to = λ x y r. record {
-    all = λ i j s. to-cell A {x = x + s .x2 + s .x1} {y = y + s .y2 + s .y1} (omega (arith, s .at-x)) (omega (arith, s .at-y)) (r .all (s .x2) (s .y2) (s .right) .all (s .x1) (s .y1) (s .left));
+    all = λ i j s. to-cell A {x = x + s .x2 + s .x1} {y = y + s .y2 + s .y1} (omega (arith, s .at-x)) (omega (arith, s .at-y))
+        (r .all (s .x2) (s .y2) (s .right) .all (s .x1) (s .y1) (s .left));
   };
   from = λ x y r. record {
-    all = λ i j k. record { all = λ u v l. to-cell A {x = x + (u + i)} {y = y + (v + j)} (omega arith) (omega arith) (r .all (u + i) (v + j) (add-cells u v i j l k)) };
+    all = λ i j k. record {
+      all = λ u v l. to-cell A {x = x + (u + i)} {y = y + (v + j)} (omega arith) (omega arith)
+          (r .all (u + i) (v + j) (add-cells u v i j l k));
+    };
   };
 }
 
@@ -99,7 +103,8 @@ module _ (permitted : ℕ → Bool) (num : ℕ → ℕ → ℕ) (A Y T′ : Cell
   down-counts L f i l = o .counts (m ∷ L) (with-one permitted A Y m L t f) i l
 
   -- what is known below, where the residue and the numbers are right
-  pub down : (R : Cells) (need′ : List ℕ) → Same R (Residue T′ (AtMask m)) → ((i : ℕ) → i < 18 → getD need′ i 0 ≡ getD need i 0 - num i m) → Open permitted num A (Sum Y (AtMask m)) R need′
+  pub down : (R : Cells) (need′ : List ℕ) → Same R (Residue T′ (AtMask m)) → ((i : ℕ) → i < 18 → getD need′ i 0 ≡ getD need i 0 - num i m)
+      → Open permitted num A (Sum Y (AtMask m)) R need′
   down R need′ e g = record {
     left = same-trans e (same-trans (residue-same (o .left)) (residue-sum A Y m));
     counts = λ L f i l. let c = down-counts L f i l in let d = g i l in omega arith;
@@ -115,7 +120,8 @@ module _ (permitted : ℕ → Bool) (num : ℕ → ℕ → ℕ) (A Y T′ : Cell
 
 -- ---- a mask in the place of another
 
-pub replaced : (permitted : ℕ → Bool) (num : ℕ → ℕ → ℕ) (A Y T′ : Cells) (need : List ℕ) → Open permitted num A Y T′ need → (m b : ℕ) → T (permitted b) → Replaces T′ m b → (L : List ℕ)
+pub replaced : (permitted : ℕ → Bool) (num : ℕ → ℕ → ℕ) (A Y T′ : Cells) (need : List ℕ) → Open permitted num A Y T′ need → (m b : ℕ) → T (permitted b)
+    → Replaces T′ m b → (L : List ℕ)
     → Fills permitted A Y (m ∷ L) → Fills permitted A Y (b ∷ L)
 replaced permitted num A Y T′ need o m b t r L f = record {
   masks = λ s h. ⊎-elim (λ e. subst (λ k. T (permitted k)) (sym e) t) (λ k. f .masks s (inr k)) h;
@@ -140,8 +146,10 @@ replaced permitted num A Y T′ need o m b t r L f = record {
       at-y = s .at-y;
     };
     from = λ x y s. let q = s .right in
-        let k = r .rest (q .x2) (q .y2) (in-rest permitted num A Y T′ need o m (f .masks m (inl refl)) L (without-one permitted A Y m L f) (q .x2) (q .y2) (q .right)) in
+        let k = r .rest (q .x2) (q .y2) (in-rest permitted num A Y T′ need o m (f .masks m (inl refl)) L (without-one permitted A Y m L f) (q .x2) (q .y2)
+        (q .right)) in
         let c = o .left .to (q .x2 + q .x1) (q .y2 + q .y1) (k .all (q .x1) (q .y1) (q .left)) in
-        to-cell A {x = q .x2 + q .x1 + s .x1} {y = q .y2 + q .y1 + s .y1} (omega (arith, q .at-x, s .at-x)) (omega (arith, q .at-y, s .at-y)) (c .all (s .x1) (s .y1) (s .left));
+        to-cell A {x = q .x2 + q .x1 + s .x1} {y = q .y2 + q .y1 + s .y1} (omega (arith, q .at-x, s .at-x)) (omega (arith, q .at-y, s .at-y))
+        (c .all (s .x1) (s .y1) (s .left));
   };
 }

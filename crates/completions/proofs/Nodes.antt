@@ -34,17 +34,26 @@ module _ (nums : List ℕ) (here : Here) (cand : List ℕ) (k : ℕ) where
 
   -- k masks do not reach the width, or the height, that is needed
   pub too-wide : 2 * k < getD (here .need) 16 0 → NoneHere nums here cand k
-  too-wide h = record { no = λ permitted r a. too-few permitted (aimOf here) Y cand (length cand) k (numberIn nums) (At (here .rest)) (here .need) (r .state) 16 (omega arith) (λ m t. let c = r .known .spans m t .right .1 .column in omega arith) h }
+  too-wide h = record {
+    no = λ permitted r a. too-few permitted (aimOf here) Y cand (length cand) k (numberIn nums) (At (here .rest)) (here .need)
+        (r .state) 16 (omega arith) (λ m t. let c = r .known .spans m t .right .1 .column in omega arith) h;
+  }
 
   pub too-high : 2 * k < getD (here .need) 17 0 → NoneHere nums here cand k
-  too-high h = record { no = λ permitted r a. too-few permitted (aimOf here) Y cand (length cand) k (numberIn nums) (At (here .rest)) (here .need) (r .state) 17 (omega arith) (λ m t. let c = r .known .spans m t .high .1 .row in omega arith) h }
+  too-high h = record {
+    no = λ permitted r a. too-few permitted (aimOf here) Y cand (length cand) k (numberIn nums) (At (here .rest)) (here .need)
+        (r .state) 17 (omega arith) (λ m t. let c = r .known .spans m t .high .1 .row in omega arith) h;
+  }
 
   -- of the masks of a list those from r on were tried, whichever masks are permitted
   pub record Turned (xs : List ℕ) (r : ℕ) : Type 0 where
     pub spent : (permitted : ℕ → Bool) → Ready permitted nums here → Allowed permitted xs → Spent permitted (aimOf here) Y xs (length xs) r k
 
   pub turned-none : (xs : List ℕ) (r : ℕ) → r ≡ length xs → Turned xs r
-  turned-none xs r e = record { spent = λ permitted s a. subst (λ (j : ℕ). Spent permitted (aimOf here) Y xs (length xs) j k) (sym e) (spent-none permitted (aimOf here) Y xs (length xs) k) }
+  turned-none xs r e = record {
+    spent = λ permitted s a. subst (λ (j : ℕ). Spent permitted (aimOf here) Y xs (length xs) j k) (sym e)
+        (spent-none permitted (aimOf here) Y xs (length xs) k);
+  }
 
   pub turned-more : (xs : List ℕ) (r : ℕ) → 0 < r → r ≤ length xs → Turned xs r → NoneBefore nums here xs r k → Turned xs (r - 1)
   turned-more xs r p l t h = record {
@@ -62,7 +71,8 @@ module _ (nums : List ℕ) (here : Here) (cand : List ℕ) (k : ℕ) where
     n = b .count
 
     allowed : (permitted : ℕ → Bool) → Allowed permitted cand → Allowed permitted (take n list)
-    allowed permitted a m h = a m (d .only m (among-more list _ n m (omega (arith, length-take n list)) (of-part list n (length (take n list)) m (omega (arith, length-take n list)) h)))
+    allowed permitted a m h = a m (d .only m
+        (among-more list _ n m (omega (arith, length-take n list)) (of-part list n (length (take n list)) m (omega (arith, length-take n list)) h)))
 
     pub node-none : (r : ℕ) → b .number < 18 → r ≤ b .without → Turned (take n list) r → NoneHere nums here cand k
     node-none r l q t = record {
@@ -73,7 +83,8 @@ module _ (nums : List ℕ) (here : Here) (cand : List ℕ) (k : ℕ) where
           let room = d .room in
           drawn permitted (aimOf here) Y (take n list) (length (take n list)) k (numberIn nums) (At (here .rest)) (here .need) (s .state) cand (length cand)
           (λ m g c f. to-part list n m (omega arith) (d .all m (s .known .below m g) c f))
-          (branch-end permitted (aimOf here) Y (take n list) (length (take n list)) k (numberIn nums) (At (here .rest)) (here .need) (s .state) (b .number) r l (d .needed)
+          (branch-end permitted (aimOf here) Y (take n list) (length (take n list)) k (numberIn nums) (At (here .rest)) (here .need) (s .state)
+          (b .number) r l (d .needed)
           (λ m g c. d .without m (s .known .below m g) (among-more list r (b .without) m q (of-part list n r m (omega arith) c)))
           (t .spent permitted s (allowed permitted a)));
     }
@@ -96,10 +107,14 @@ module _ (nums : List ℕ) (here : Here) (list : List ℕ) (r k : ℕ) (r-in : 0
   -- what is shown of the mask before r
   none-of : ((permitted : ℕ → Bool) → Ready permitted nums here → Allowed permitted list → Spent permitted (aimOf here) Z list (length list) r k
       → NoneThrough permitted (aimOf here) Z list r k m) → NoneBefore nums here list r k
-  none-of f = record { no = λ permitted s a t j e. subst (λ (i : ℕ). NoneThrough permitted (aimOf here) Z list r k (getD list i 0)) (sym (before-is j e)) (f permitted s a t) }
+  none-of f = record {
+    no = λ permitted s a t j e. subst (λ (i : ℕ). NoneThrough permitted (aimOf here) Z list r k (getD list i 0)) (sym (before-is j e))
+        (f permitted s a t);
+  }
 
   -- rule S: a mask that was tried replaces it
-  pub stage-replaced : (p : ℕ) → p < length list → r ≤ p → ((i j : ℕ) → AtMask m i j → Replaces (At (here .rest)) m (getD list p 0)) → NoneBefore nums here list r k
+  pub stage-replaced : (p : ℕ) → p < length list → r ≤ p → ((i j : ℕ) → AtMask m i j → Replaces (At (here .rest)) m (getD list p 0))
+      → NoneBefore nums here list r k
   stage-replaced p l q f = none-of (λ permitted s a t.
       let c = s .known .spans m (permitted-m permitted a) .left in
       replaced-gone permitted (aimOf here) Z list (length list) k (numberIn nums) (At (here .rest)) (here .need) (s .state) r m p q l t
@@ -115,16 +130,19 @@ module _ (nums : List ℕ) (here : Here) (list : List ℕ) (r k : ℕ) (r-in : 0
     stage-none e p h = none-of (λ permitted s a t. none-below permitted (aimOf here) Z list r k m p (below permitted s a))
       where
         part : (permitted : ℕ → Bool) → Allowed permitted list → Allowed permitted (take r list)
-        part permitted a q b = a q (among-more list r (length list) q r-to (among-more list _ r q (omega (arith, length-take r list)) (of-part list r (length (take r list)) q (omega (arith, length-take r list)) b)))
+        part permitted a q b = a q (among-more list r (length list) q r-to
+            (among-more list _ r q (omega (arith, length-take r list)) (of-part list r (length (take r list)) q (omega (arith, length-take r list)) b)))
 
         below : (permitted : ℕ → Bool) → Ready permitted nums here → Allowed permitted list → None permitted (aimOf here) (Sum Z (AtMask m)) list r (k - 1)
         below permitted s a = record {
-          no = λ L f b q. h .no permitted (st .below .ready e permitted s (permitted-m permitted a)) (part permitted a) .no L (below-fills nums here m c (st .below) e permitted L f) (λ v g. to-part list r v r-to (b v g)) q;
+          no = λ L f b q. h .no permitted (st .below .ready e permitted s (permitted-m permitted a)) (part permitted a) .no L
+              (below-fills nums here m c (st .below) e permitted L f) (λ v g. to-part list r v r-to (b v g)) q;
         }
 
 -- ---- from the start
 
-pub no-sum : (cells need nums cand path : List ℕ) (k : ℕ) → NoneHere nums (record { target = cells; rest = cells; path = path; len = 0; need = need }) cand k → NoSum cells need nums cand k
+pub no-sum : (cells need nums cand path : List ℕ) (k : ℕ) → NoneHere nums
+    (record { target = cells; rest = cells; path = path; len = 0; need = need }) cand k → NoSum cells need nums cand k
 unfolding chosen
 no-sum cells need nums cand path k h = record { no = λ permitted m o. h .no permitted (record { known = m; state = o }) }
 

@@ -21,7 +21,8 @@ use Rattle.completions.proofs.Members.{down, down-counts, not-fit, in-r
 
 -- ---- what is known does not depend on how the sum is written
 
-pub open-same : (permitted : ℕ → Bool) (num : ℕ → ℕ → ℕ) (A X Y R : Cells) (need : List ℕ) → Same X Y → Open permitted num A X R need → Open permitted num A Y R need
+pub open-same : (permitted : ℕ → Bool) (num : ℕ → ℕ → ℕ) (A X Y R : Cells) (need : List ℕ) → Same X Y → Open permitted num A X R need
+    → Open permitted num A Y R need
 open-same permitted num A X Y R need e o = record {
   left = same-trans (o .left) (record {
     to = λ x y r. record { all = λ i j k. r .all i j (e .from i j k) };
@@ -33,7 +34,8 @@ open-same permitted num A X Y R need e o = record {
 -- ---- extents
 
 -- a sum of masks spans the sums of their widths and heights
-pub sum-spans : (permitted : ℕ → Bool) (nums : List ℕ) → Masks permitted nums → (L : List ℕ) → ((m : ℕ) → In L m → T (permitted m)) → Spans (AtSum L) (summed (numberIn nums 16) L) (summed (numberIn nums 17) L)
+pub sum-spans : (permitted : ℕ → Bool) (nums : List ℕ) → Masks permitted nums → (L : List ℕ) → ((m : ℕ) → In L m → T (permitted m)) → Spans (AtSum L)
+    (summed (numberIn nums 16) L) (summed (numberIn nums 17) L)
 sum-spans permitted nums k [] f = record {
   left = (0, record { at-x = refl; at-y = refl });
   right = (0, record { at-x = refl; at-y = refl });
@@ -74,7 +76,8 @@ below-no nums here m there = record {
 }
 
 pub stepped-no : (nums : List ℕ) (here : Here) (m : ℕ)
-    → (here .len < 32 → (permitted : ℕ → Bool) → Ready permitted nums here → T (permitted m) → (L : List ℕ) → Fills permitted (aimOf here) (Sum (partialSum here) (AtMask m)) L → ⊥)
+    → (here .len < 32 → (permitted : ℕ → Bool) → Ready permitted nums here → T (permitted m) → (L : List ℕ) → Fills permitted (aimOf here)
+    (Sum (partialSum here) (AtMask m)) L → ⊥)
     → Stepped nums here m (record { ok = false; here = here })
 stepped-no nums here m f = record { outside = λ _. refl; back = λ _. refl; below = below-no nums here m here; no = λ e. f }
 
@@ -104,15 +107,18 @@ module _ (nums : List ℕ) (here : Here) (m : ℕ) where
       covered L f = record {
         to = λ x y h.
             let s = f .whole .to x y h in
-            let p = rest-same .from (s .x2) (s .y2) (in-rest permitted (numberIn nums) (aimOf here) Y (At rest) (here .need) (r .state) m t L f (s .x2) (s .y2) (s .right)) in
+            let p = rest-same .from (s .x2) (s .y2) (in-rest permitted (numberIn nums) (aimOf here) Y (At rest) (here .need) (r .state) m t L f (s .x2)
+            (s .y2) (s .right)) in
             to-cell (Sum (Sum (At left) (AtMask m)) Y) {x = s .x2 + s .left .x2 + s .left .x1} {y = s .y2 + s .left .y2 + s .left .y1}
             (omega (arith, s .at-x, s .left .at-x)) (omega (arith, s .at-y, s .left .at-y))
-            (add-cells (s .x2 + s .left .x2) (s .y2 + s .left .y2) (s .left .x1) (s .left .y1) (add-cells (s .x2) (s .y2) (s .left .x2) (s .left .y2) p (s .left .right)) (s .left .left));
+            (add-cells (s .x2 + s .left .x2) (s .y2 + s .left .y2) (s .left .x1) (s .left .y1)
+            (add-cells (s .x2) (s .y2) (s .left .x2) (s .left .y2) p (s .left .right)) (s .left .left));
         from = λ x y s.
             let q = s .left in
             let a = rest-same .to (q .x1) (q .y1) (q .left) .all (q .x2) (q .y2) (q .right) in
             let b = r .state .left .to (q .x1 + q .x2) (q .y1 + q .y2) a in
-            to-cell (aimOf here) {x = q .x1 + q .x2 + s .x2} {y = q .y1 + q .y2 + s .y2} (omega (arith, s .at-x, q .at-x)) (omega (arith, s .at-y, q .at-y)) (b .all (s .x2) (s .y2) (s .right));
+            to-cell (aimOf here) {x = q .x1 + q .x2 + s .x2} {y = q .y1 + q .y2 + s .y2} (omega (arith, s .at-x, q .at-x))
+            (omega (arith, s .at-y, q .at-y)) (b .all (s .x2) (s .y2) (s .right));
       }
 
       -- the path, the mask and what it leaves do not make up the target
@@ -120,7 +126,8 @@ module _ (nums : List ℕ) (here : Here) (m : ℕ) where
       step-uncovered d L f = d (covered L f)
 
       -- what is left has not the extents that are needed, or nothing was gained of them
-      pub step-unmet : (left′ : List ℕ) → ((i : ℕ) → i < 18 → getD left′ i 0 ≡ getD (here .need) i 0 - numberIn nums i m) → Fit (numberIn nums) (here .need) m → Unmet (At left) (here .need) left′
+      pub step-unmet : (left′ : List ℕ) → ((i : ℕ) → i < 18 → getD left′ i 0 ≡ getD (here .need) i 0 - numberIn nums i m) → Fit (numberIn nums)
+          (here .need) m → Unmet (At left) (here .need) left′
           → (L : List ℕ) → Fills permitted (aimOf here) (Sum Y (AtMask m)) L → ⊥
       step-unmet left′ g b u L f = ⊎-elim
           (λ n. n (spans-in (number 16 (omega arith)) (number 17 (omega arith)) inside (sum-spans permitted nums (r .known) L (f .masks))))
@@ -139,10 +146,12 @@ module _ (nums : List ℕ) (here : Here) (m : ℕ) where
           inside x y h = rest-same .from x y (in-rest permitted (numberIn nums) (aimOf here) Y (At rest) (here .need) (r .state) m t L f x y h)
 
           number : (i : ℕ) → i < 18 → summed (numberIn nums i) L ≡ getD left′ i 0
-          number i l = let c = down-counts permitted (numberIn nums) (aimOf here) Y (At rest) (here .need) (r .state) m t L f i l in let d = g i l in omega arith
+          number i l = let c = down-counts permitted (numberIn nums) (aimOf here) Y (At rest) (here .need) (r .state) m t L f i l in let d = g i l in
+              omega arith
 
       -- the state below
-      below-ready : (need′ : List ℕ) → ((i : ℕ) → i < 18 → getD need′ i 0 ≡ getD (here .need) i 0 - numberIn nums i m) → (path′ : List ℕ) (len′ : ℕ) → chosen path′ len′ ≡ m ∷ chosen (here .path) (here .len)
+      below-ready : (need′ : List ℕ) → ((i : ℕ) → i < 18 → getD need′ i 0 ≡ getD (here .need) i 0 - numberIn nums i m) → (path′ : List ℕ) (len′ : ℕ)
+          → chosen path′ len′ ≡ m ∷ chosen (here .path) (here .len)
           → Ready permitted nums (record { target = here .target; rest = left; path = path′; len = len′; need = need′ })
       below-ready need′ g path′ len′ e = record {
         known = r .known;
@@ -151,9 +160,11 @@ module _ (nums : List ℕ) (here : Here) (m : ℕ) where
             (down permitted (numberIn nums) (aimOf here) Y (At rest) (here .need) (r .state) m t (At left) need′ rest-same g));
       }
 
-  pub stepped-yes : Rows16 rest → (left need′ : List ℕ) → CutTo (Residue (At rest) (AtMask m)) left → ((i : ℕ) → i < 18 → getD need′ i 0 ≡ getD (here .need) i 0 - numberIn nums i m)
+  pub stepped-yes : Rows16 rest → (left need′ : List ℕ) → CutTo (Residue (At rest) (AtMask m)) left
+      → ((i : ℕ) → i < 18 → getD need′ i 0 ≡ getD (here .need) i 0 - numberIn nums i m)
       → here .len < 32 → length (here .path) ≡ 32 → getD need′ 16 0 + getD need′ 17 0 < extentsOf here
-      → Stepped nums here m (record { ok = true; here = record { target = here .target; rest = left; path = set (here .path) (here .len) m; len = here .len + 1; need = need′ } })
+      → Stepped nums here m
+      (record { ok = true; here = record { target = here .target; rest = left; path = set (here .path) (here .len) m; len = here .len + 1; need = need′ } })
   stepped-yes known left need′ c g l w v = let e = chosen-more (here .path) (here .len) m (omega arith) in record {
     outside = λ d. absurd (omega arith);
     back = λ d. absurd (true≢false d);

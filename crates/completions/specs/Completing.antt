@@ -1,5 +1,5 @@
--- What the quick search answers of a partial sum: that no masks of a list complete it to the target. Masks are taken in any order and any of them more than once; which
--- are permitted, and the numbers of each, are parameters.
+-- What the quick search answers of a partial sum: that no masks of a list complete it to the target. Masks are taken in any order and any of them more than
+-- once; which are permitted, and the numbers of each, are parameters.
 use mathlib.Core.Path.{_≡_}
 use mathlib.Core.Bool.{Bool, true, false}
 use mathlib.Core.Logic.{_⊎_}
@@ -102,7 +102,8 @@ pub record Stepped (nums : List ℕ) (here : Here) (m : ℕ) (r : Child) : Type 
   pub outside : 32 ≤ here .len → r .ok ≡ false
   pub back : r .ok ≡ false → r .here ≡ here
   pub below : Below nums here m r
-  pub no : r .ok ≡ false → here .len < 32 → (permitted : ℕ → Bool) → Ready permitted nums here → T (permitted m) → (L : List ℕ) → Fills permitted (aimOf here) (Sum (partialSum here) (AtMask m)) L → ⊥
+  pub no : r .ok ≡ false → here .len < 32 → (permitted : ℕ → Bool) → Ready permitted nums here → T (permitted m) → (L : List ℕ)
+      → Fills permitted (aimOf here) (Sum (partialSum here) (AtMask m)) L → ⊥
 
 -- each mask of a list is permitted
 abbrev pub Allowed : (ℕ → Bool) → List ℕ → Type 0

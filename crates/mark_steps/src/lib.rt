@@ -74,7 +74,8 @@ fn store(table: &mut [u8], m: usize, numbers: [u8; 18])
 // Stores the numbers of the mask m in the table, where it is marked.
 fn entered(marks: &[u8], table: &mut [u8], m: u16)
     requires { ⌜ Marks (now marks) × ((length (now table) ≡ 9216) × (m < 512)) ⌝ }
-    ensures { λ _. ⌜ (length (now (table .exit)) ≡ length (now (table .entry))) × (Tabled (now (marks .entry)) m (now (table .entry)) → Tabled (now (marks .entry)) (m + 1) (now (table .exit))) ⌝ }
+    ensures { λ _. ⌜ (length (now (table .exit)) ≡ length (now (table .entry))) ×
+        (Tabled (now (marks .entry)) m (now (table .entry)) → Tabled (now (marks .entry)) (m + 1) (now (table .exit))) ⌝ }
 {
     if marks[m as usize] != 1 {
         return;

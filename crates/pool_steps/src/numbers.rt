@@ -58,7 +58,8 @@ pub fn less(need: [u8; 18], nums: &[u8; 9216], m: u16) -> [u8; 18]
 
 // 1 where m is one of the 512 masks and fits what is needed, else 0.
 pub(crate) fn fitting(need: [u8; 18], nums: &[u8; 9216], m: u16) -> usize
-    ensures { λ r. ⌜ (r ≤ 1) × ((1 ≤ r → (m < 512) × Fit (numberIn (now (nums .entry))) need m) × (m < 512 → Fit (numberIn (now (nums .entry))) need m → 1 ≤ r)) ⌝ }
+    ensures { λ r. ⌜ (r ≤ 1) × ((1 ≤ r → (m < 512) × Fit (numberIn (now (nums .entry))) need m) ×
+        (m < 512 → Fit (numberIn (now (nums .entry))) need m → 1 ≤ r)) ⌝ }
 {
     if fits(need, nums, m) { 1 } else { 0 }
 }

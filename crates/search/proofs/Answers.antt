@@ -60,7 +60,8 @@ module _ (permitted : ℕ → Bool) where
 
     -- ---- no stage is left
 
-    pub at-leaf : (k m : ℕ) (found : Bool) (masks : List ℕ) → k ≡ 0 → (found ≡ true → Same A Y) → (found ≡ false → Same A Y → ⊥) → ((i : ℕ) → getD masks i 0 ≡ 0)
+    pub at-leaf : (k m : ℕ) (found : Bool) (masks : List ℕ) → k ≡ 0 → (found ≡ true → Same A Y) → (found ≡ false → Same A Y → ⊥)
+        → ((i : ℕ) → getD masks i 0 ≡ 0)
         → FirstLine permitted A Y k m found masks
     unfolding chosen
     at-leaf zero m found masks z f g past = record {
@@ -96,12 +97,18 @@ module _ (permitted : ℕ → Bool) where
               let q : suc (length ns) ≡ k = l in
               let r : length ns ≡ k - 1 = omega arith in
               ⊎-elim
-              (λ e. absurd (shut (subst (λ n. T (permitted n)) (sym e) (h .1)) ns r (subst (λ n. Completes permitted A (Sum Y (AtMask n)) n ns) (sym e) (h .2))))
-              (λ w. record { stages = c .stages; rising = not-or (ltb s (i + 1)) (falling (s ∷ ns)) .1 (not-ltb s (i + 1) (omega arith), h .2 .rising); sum = c .sum })
+              (λ e. absurd (shut (subst (λ n. T (permitted n)) (sym e) (h .1)) ns r
+              (subst (λ n. Completes permitted A (Sum Y (AtMask n)) n ns) (sym e) (h .2))))
+              (λ w. record {
+                stages = c .stages;
+                rising = not-or (ltb s (i + 1)) (falling (s ∷ ns)) .1 (not-ltb s (i + 1) (omega arith), h .2 .rising);
+                sum = c .sum;
+              })
               (eq-or-lt-of-le (h .0))
 
       -- the first list from i on is the first from m on
-      pub passed-found : (i : ℕ) (masks : List ℕ) → Narrowed permitted A Y k m i → FirstLine permitted A Y k i true masks → FirstLine permitted A Y k m true masks
+      pub passed-found : (i : ℕ) (masks : List ℕ) → Narrowed permitted A Y k m i → FirstLine permitted A Y k i true masks
+          → FirstLine permitted A Y k m true masks
       passed-found i masks P a = record {
         sound = λ e. lower m i (chosen masks k) (P .from) (a .sound e);
         first = λ e ns l c. a .first e ns l (P .later ns l c);
@@ -110,7 +117,8 @@ module _ (permitted : ℕ → Bool) where
       }
 
       -- no mask is left
-      pub passed-all : (i : ℕ) (masks : List ℕ) → ((n : ℕ) → T (permitted n) → T (stage n)) → Narrowed permitted A Y k m i → 512 ≤ i → ((j : ℕ) → getD masks j 0 ≡ 0)
+      pub passed-all : (i : ℕ) (masks : List ℕ) → ((n : ℕ) → T (permitted n) → T (stage n)) → Narrowed permitted A Y k m i → 512 ≤ i
+          → ((j : ℕ) → getD masks j 0 ≡ 0)
           → FirstLine permitted A Y k m false masks
       passed-all i masks st P q past = record {
         sound = λ e. absurd (false≢true e);
@@ -144,11 +152,13 @@ module _ (permitted : ℕ → Bool) where
                 clash (smaller ns L) (f ns r (completes-same m ns (same-sym z) (subst (λ n. Completes permitted A (Sum Y (AtMask n)) n ns) e (h .2)))) (u .1)),
           )
 
-      pub put-first : (masks : List ℕ) → k ≤ length masks → FirstLine permitted A Z (k - 1) m true masks → FirstLine permitted A Y k m true (set masks (k - 1) m)
+      pub put-first : (masks : List ℕ) → k ≤ length masks → FirstLine permitted A Z (k - 1) m true masks → FirstLine permitted A Y k m true
+          (set masks (k - 1) m)
       put-first masks room a =
           let e = chosen-set masks k m p room in
           record {
-            sound = λ f. subst (Completes permitted A Y m) (sym e) (behind m (chosen masks (k - 1)) pm (completes-same m (chosen masks (k - 1)) z (a .sound refl)));
+            sound = λ f. subst (Completes permitted A Y m) (sym e) (behind m (chosen masks (k - 1)) pm
+                (completes-same m (chosen masks (k - 1)) z (a .sound refl)));
             first = λ f ns l c. subst (λ L. T (not (smaller ns L))) (sym e) (not-smaller ns (chosen masks (k - 1)) l c (a .first refl));
             none = λ f. absurd (true≢false f);
             past = λ i l. getD-set-other masks (k - 1) i m 0 (λ q. omega arith) ∙ a .past i (omega arith);
@@ -160,18 +170,22 @@ module _ (permitted : ℕ → Bool) (nums cand : List ℕ) (here : Here) (k m : 
   Y = partialSum here
 
   -- no list has m first
-  pub below-none : r .ok ≡ false → Roomy cand (here .len) (k - 1) → Ready permitted nums here → Allowed permitted cand → ((s : ℕ) → T (permitted s) → Among cand (length cand) s)
+  pub below-none : r .ok ≡ false → Roomy cand (here .len) (k - 1) → Ready permitted nums here → Allowed permitted cand
+      → ((s : ℕ) → T (permitted s) → Among cand (length cand) s)
       → T (permitted m) → NoneFirst permitted (aimOf here) Y k m
   below-none e room s a every pm ns l c = b .no e room permitted s a every pm ns l (c .stages) (c .sum)
 
-  module _ (e : r .ok ≡ true) (p : 0 < k) (pm : T (permitted m)) (found : Bool) (masks : List ℕ) (a : FirstLine permitted (aimOf (r .here)) (partialSum (r .here)) (k - 1) m found masks) where
+  module _ (e : r .ok ≡ true) (p : 0 < k) (pm : T (permitted m)) (found : Bool) (masks : List ℕ)
+      (a : FirstLine permitted (aimOf (r .here)) (partialSum (r .here)) (k - 1) m found masks) where
     above : FirstLine permitted (aimOf here) (Sum (AtMask m) Y) (k - 1) m found masks
     above = subst (λ (ms : List ℕ). FirstLine permitted (aimOf here) (AtSum ms) (k - 1) m found masks) (b .below .longer e .0)
         (subst (λ (l : List ℕ). FirstLine permitted (At l) (partialSum (r .here)) (k - 1) m found masks) (b .below .same e) a)
 
     pub below-closed : found ≡ false → NoneFirst permitted (aimOf here) Y k m
-    below-closed f = none-with permitted (aimOf here) Y k m p pm (Sum (AtMask m) Y) sum-comm masks (subst (λ (d : Bool). FirstLine permitted (aimOf here) (Sum (AtMask m) Y) (k - 1) m d masks) f above)
+    below-closed f = none-with permitted (aimOf here) Y k m p pm (Sum (AtMask m) Y) sum-comm masks
+        (subst (λ (d : Bool). FirstLine permitted (aimOf here) (Sum (AtMask m) Y) (k - 1) m d masks) f above)
 
     pub below-found : found ≡ true → k ≤ length masks → FirstLine permitted (aimOf here) Y k m true (set masks (k - 1) m)
     below-found f room =
-        put-first permitted (aimOf here) Y k m p pm (Sum (AtMask m) Y) sum-comm masks room (subst (λ (d : Bool). FirstLine permitted (aimOf here) (Sum (AtMask m) Y) (k - 1) m d masks) f above)
+        put-first permitted (aimOf here) Y k m p pm (Sum (AtMask m) Y) sum-comm masks room
+        (subst (λ (d : Bool). FirstLine permitted (aimOf here) (Sum (AtMask m) Y) (k - 1) m d masks) f above)

@@ -54,7 +54,8 @@ module _ (marks list : List ℕ) (n m : ℕ) (l : m < 512) (d : Drawn marks m li
             (λ g. absurd (f (subst (λ (k : ℕ). T (tries marks k)) g u)))
             (λ w. subst (λ (k : ℕ). Among (set list n m) k s) e (put-kept list n 0 m s (d .all s w u)))
             (last-or s m b);
-        only = λ s a. ⊎-elim (d .only s) (λ w. absurd (let z = w .0 in omega arith)) (put-was list n 0 m s (omega arith) (omega arith) (subst (λ (k : ℕ). Among (set list n m) k s) (sym e) a));
+        only = λ s a. ⊎-elim (d .only s) (λ w. absurd (let z = w .0 in omega arith))
+            (put-was list n 0 m s (omega arith) (omega arith) (subst (λ (k : ℕ). Among (set list n m) k s) (sym e) a));
       }
 
 -- ---- the table
@@ -63,7 +64,8 @@ module _ (table : List ℕ) (m : ℕ) (numbers : List ℕ) where
   pub stored-none : Stored table m numbers 0 table
   stored-none = record { long = refl; new = λ k l. absurd (omega arith); kept = λ s k l b. refl }
 
-  pub stored-more : (i : ℕ) (t : List ℕ) → i < 18 → m < 512 → length table ≡ 9216 → Stored table m numbers i t → Stored table m numbers (i + 1) (set t (m * 18 + i) (getD numbers i 0))
+  pub stored-more : (i : ℕ) (t : List ℕ) → i < 18 → m < 512 → length table ≡ 9216 → Stored table m numbers i t → Stored table m numbers (i + 1)
+      (set t (m * 18 + i) (getD numbers i 0))
   stored-more i t l b len h =
       let v = getD numbers i 0 in
       let long = h .long in
@@ -85,7 +87,8 @@ module _ (marks table : List ℕ) (m : ℕ) (h : Tabled marks m table) where
     at = λ s b t. ⊎-elim (λ e. absurd (f (subst (λ (k : ℕ). T (tries marks k)) e t))) (λ w. h .at s w t) (last-or s m b);
   }
 
-  pub tabled-more : (numbers table′ : List ℕ) → Stored table m numbers 18 table′ → ((i : ℕ) → i < 18 → Number i (AtMask m) (getD numbers i 0)) → Tabled marks (m + 1) table′
+  pub tabled-more : (numbers table′ : List ℕ) → Stored table m numbers 18 table′ → ((i : ℕ) → i < 18 → Number i (AtMask m) (getD numbers i 0))
+      → Tabled marks (m + 1) table′
   tabled-more numbers table′ g n = record {
     long = g .long ∙ h .long;
     at = λ s b t i l. ⊎-elim
@@ -95,7 +98,8 @@ module _ (marks table : List ℕ) (m : ℕ) (h : Tabled marks m table) where
   }
 
 -- the numbers of a stage's rows are the stage's
-pub stage-numbers : (m : ℕ) → T (stage m) → (rows r : List ℕ) → Same (At rows) (AtMask (m % 512)) → Numbered rows 3 r → (i : ℕ) → i < 18 → Number i (AtMask m) (getD r i 0)
+pub stage-numbers : (m : ℕ) → T (stage m) → (rows r : List ℕ) → Same (At rows) (AtMask (m % 512)) → Numbered rows 3 r → (i : ℕ) → i < 18 → Number i
+    (AtMask m) (getD r i 0)
 stage-numbers m t rows r e n i l =
     let f = stage-rows m t e in
     let c = mask-reach false m t in

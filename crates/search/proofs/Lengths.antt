@@ -45,7 +45,8 @@ module _ (permitted : ℕ → Bool) (sub : (m : ℕ) → T (permitted m) → T (
   stages-of ns S = all-In stage ns (λ m h. sub m (In-all permitted ns (S .masks) m h))
 
   -- how many stages a list has that sums to cells of given extents
-  pub counts : (A : Cells) (w h : ℕ) → Greatest column A w → Greatest row A h → (ns : List ℕ) → SumsTo permitted A ns → ((max w h + 1) / 2 ≤ length ns) × (length ns ≤ w + h)
+  pub counts : (A : Cells) (w h : ℕ) → Greatest column A w → Greatest row A h → (ns : List ℕ) → SumsTo permitted A ns → ((max w h + 1) / 2 ≤ length ns) ×
+      (length ns ≤ w + h)
   counts A w h e f ns S =
       let t = stages-of ns S in
       let r = total-reach ns t in
@@ -87,7 +88,8 @@ module _ (permitted : ℕ → Bool) (sub : (m : ℕ) → T (permitted m) → T (
         sorted = sorted-of L (c .rising);
         first = λ ns S t. ⊎-elim
             (λ w. absurd (below ns S t w))
-            (λ w. not-before-tied L ns (subst (λ (n : ℕ). n ≤ length ns) (sym (length-chosen masks k)) w) (λ q. a .first e ns (q ∙ length-chosen masks k) (completes ns S t)))
+            (λ w. not-before-tied L ns (subst (λ (n : ℕ). n ≤ length ns) (sym (length-chosen masks k)) w)
+            (λ q. a .first e ns (q ∙ length-chosen masks k) (completes ns S t)))
             (lt-or-le (length ns) k);
       };
       none = λ f. absurd (true≢false f);

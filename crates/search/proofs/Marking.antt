@@ -38,7 +38,17 @@ module _ (A : List ℕ) (wA : Rows16 A) (m : ℕ) (t : List ℕ) (ht : CutTo (Re
   pub opens : (permitted : ℕ → Bool) (ns : List ℕ) → SumsTo permitted (At A) ns → In ns m → Same (At A) (At c)
   opens permitted ns S h = record {
     to = λ x z a. let s = e .to x z a in
-        hc .from x z (record { x1 = s .x1; y1 = s .y1; x2 = s .x2; y2 = s .y2; left = in-t (s .x1) (s .y1) (s .left) x z (omega (arith, s .at-x)) (omega (arith, s .at-y)) a; right = s .right; at-x = s .at-x; at-y = s .at-y })
+        hc .from x z (record {
+          x1 = s .x1;
+          y1 = s .y1;
+          x2 = s .x2;
+          y2 = s .y2;
+          left = in-t (s .x1) (s .y1) (s .left) x z (omega (arith, s .at-x))
+              (omega (arith, s .at-y)) a;
+          right = s .right;
+          at-x = s .at-x;
+          at-y = s .at-y;
+        })
         (in-x A wA x z a) (in-y A wA x z a);
     from = whole-in;
   }
@@ -68,11 +78,13 @@ module _ (permitted : ℕ → Bool) (A : Cells) where
   pub marked-none : Candidates permitted A 0 (replicate 512 0)
   marked-none = record { room = refl; at = λ m l. absurd (omega arith); rest = λ m l. zero-at 512 m }
 
-  pub marked-more : (n : ℕ) (marks : List ℕ) (v : ℕ) → n < 512 → Candidates permitted A n marks → Candidate permitted A n v → Candidates permitted A (n + 1) (set marks n v)
+  pub marked-more : (n : ℕ) (marks : List ℕ) (v : ℕ) → n < 512 → Candidates permitted A n marks → Candidate permitted A n v → Candidates permitted A
+      (n + 1) (set marks n v)
   marked-more n marks v l M k = record {
     room = length-set marks n v ∙ M .room;
     at = λ m q. ⊎-elim
-        (λ e. subst (λ (j : ℕ). Candidate permitted A j (getD (set marks n v) j 0)) (sym e) (subst (Candidate permitted A n) (sym (getD-set-same marks n v 0 (omega (arith, M .room)))) k))
+        (λ e. subst (λ (j : ℕ). Candidate permitted A j (getD (set marks n v) j 0)) (sym e)
+        (subst (Candidate permitted A n) (sym (getD-set-same marks n v 0 (omega (arith, M .room)))) k))
         (λ w. subst (Candidate permitted A m) (sym (getD-set-other marks n m v 0 (λ e. omega arith))) (M .at m w))
         (eq-or-lt-of-le {n = m} {m = n} (omega arith));
     rest = λ m q. getD-set-other marks n m v 0 (λ e. omega arith) ∙ M .rest m (omega arith);

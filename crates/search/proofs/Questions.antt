@@ -61,11 +61,13 @@ module _ (m : ℕ) (t : T (stage m)) where
   -- the number is not below the reach
   wide-least : (v : ℕ) → Number 16 (AtMask m) v → reach false m ≤ v
   unfolding plusX plusY minusX minusY firstDirection secondDirection timesOf
-  wide-least v n = let g = mask-reach false m t in let l = n .second .above 0 (low .x .1) column-0 in omega (arith, n .value, n .first .above (g .x) (g .y) (g .cell), g .at)
+  wide-least v n = let g = mask-reach false m t in let l = n .second .above 0 (low .x .1) column-0 in omega
+      (arith, n .value, n .first .above (g .x) (g .y) (g .cell), g .at)
 
   high-least : (v : ℕ) → Number 17 (AtMask m) v → reach true m ≤ v
   unfolding plusX plusY minusX minusY firstDirection secondDirection timesOf
-  high-least v n = let g = mask-reach true m t in let l = n .second .above (low .y .0) 0 row-0 in omega (arith, n .value, n .first .above (g .x) (g .y) (g .cell), g .at)
+  high-least v n = let g = mask-reach true m t in let l = n .second .above (low .y .0) 0 row-0 in omega
+      (arith, n .value, n .first .above (g .x) (g .y) (g .cell), g .at)
 
   pub sizes-some : (v u : ℕ) → Number 16 (AtMask m) v → Number 17 (AtMask m) u → 1 ≤ v + u
   sizes-some v u n k = let a = wide-least v n in let b = high-least u k in let c = reach-some m t in omega arith
@@ -89,7 +91,8 @@ module _ (marks cells : List ℕ) (M : Candidates stage (At cells) 512 marks) wh
       number : (m : ℕ) → T (tries marks m) → (i : ℕ) → i < 18 → Number i (AtMask m) (numberIn nums i m)
       number m t i l = h .at m (stage-below m (is-stage m t)) t i l
 
-  state-of : (nums need : List ℕ) (w : ℕ) → Rows16 cells → Greatest column (At cells) w → Tabled marks 512 nums → Numbered cells 16 need → Open (tries marks) (numberIn nums) (At cells) AtOrigin (At cells) need
+  state-of : (nums need : List ℕ) (w : ℕ) → Rows16 cells → Greatest column (At cells) w → Tabled marks 512 nums → Numbered cells 16 need → Open
+      (tries marks) (numberIn nums) (At cells) AtOrigin (At cells) need
   state-of nums need w known g h n = record {
     left = record {
       to = λ x y c. record { all = λ i j o. to-cell (At cells) {x = x} {y = y} (omega (arith, o .at-x)) (omega (arith, o .at-y)) c };
@@ -104,7 +107,8 @@ module _ (marks cells : List ℕ) (M : Candidates stage (At cells) 512 marks) wh
       all : Same (Front cells 16) (At cells)
       all = front-all cells 16 (in-y cells known)
 
-  pub questioned : (need nums list : List ℕ) (n w : ℕ) → Rows16 cells → Greatest column (At cells) w → Tabled marks 512 nums → Numbered cells 16 need → Drawn marks 512 list n → Questioned marks cells need nums (take n list)
+  pub questioned : (need nums list : List ℕ) (n w : ℕ) → Rows16 cells → Greatest column (At cells) w → Tabled marks 512 nums → Numbered cells 16 need
+      → Drawn marks 512 list n → Questioned marks cells need nums (take n list)
   questioned need nums list n w known g h u d =
       let few = d .few in
       let long = d .long in
@@ -120,7 +124,8 @@ module _ (marks cells : List ℕ) (M : Candidates stage (At cells) 512 marks) wh
       }
     where
       whole : (m : ℕ) → Among (take n list) (length (take n list)) m → Among list n m
-      whole m a = among-more list (length (take n list)) n m (omega (arith, length-take n list)) (of-part list n (length (take n list)) m (omega (arith, length-take n list)) a)
+      whole m a = among-more list (length (take n list)) n m (omega (arith, length-take n list))
+          (of-part list n (length (take n list)) m (omega (arith, length-take n list)) a)
 
 module _ (marks cells need nums cand : List ℕ) (q : Questioned marks cells need nums cand) (k : ℕ) (none : NoSum cells need nums cand k) where
   -- no marked masks, k or fewer, sum to the cells
@@ -139,12 +144,15 @@ module _ (marks cells need nums cand : List ℕ) (q : Questioned marks cells nee
   }
 
 -- what the search starts from
-pub start-kept : (marks cells need nums cand : List ℕ) → Questioned marks cells need nums cand → (k : ℕ) (path : List ℕ) → k ≤ 30 → Underway marks nums cand (record { target = cells; rest = cells; path = path; len = 0; need = need }) k
+pub start-kept : (marks cells need nums cand : List ℕ) → Questioned marks cells need nums cand → (k : ℕ) (path : List ℕ) → k ≤ 30
+    → Underway marks nums cand (record { target = cells; rest = cells; path = path; len = 0; need = need }) k
 unfolding chosen
 start-kept marks cells need nums cand q k path l = record { pool = q .pool; room = omega arith; state = record { known = q .masks; state = q .state } }
 
 -- where w + h or fewer do not, none do
-pub no-plan : (marks cells need nums cand : List ℕ) → Candidates stage (At cells) 512 marks → Questioned marks cells need nums cand → (w h : ℕ) → Greatest column (At cells) w → Greatest row (At cells) h
+pub no-plan : (marks cells need nums cand : List ℕ) → Candidates stage (At cells) 512 marks → Questioned marks cells need nums cand → (w h : ℕ)
+    → Greatest column (At cells) w → Greatest row (At cells) h
     → NoSum cells need nums cand (w + h) → Shortest stage (At cells) false 0 (replicate 32 0)
 no-plan marks cells need nums cand M q w h e f none = none-any stage (λ m t. t) (At cells) (λ ns S.
-    no-marked marks cells need nums cand q (w + h) none ns (all-tried stage (At cells) (λ m t. t) marks M ns S) (S .sum) (counts stage (λ m t. t) (At cells) w h e f ns S .1))
+    no-marked marks cells need nums cand q (w + h) none ns (all-tried stage (At cells) (λ m t. t) marks M ns S) (S .sum)
+    (counts stage (λ m t. t) (At cells) w h e f ns S .1))

@@ -79,5 +79,6 @@ total-reach (m ∷ ms) t =
     let r = total-reach ms (u .1) in
     step (reach false m) (reach true m) _ _ (length ms) (reach-small false m) (reach-small true m) (reach-some m (u .0)) (r .0) (r .1) (r .2)
   where
-    step : (a b w h n : ℕ) → a ≤ 2 → b ≤ 2 → 1 ≤ a + b → w ≤ 2 * n → h ≤ 2 * n → n ≤ w + h → (a + w ≤ 2 * suc n) × (b + h ≤ 2 * suc n) × (suc n ≤ a + w + (b + h))
+    step : (a b w h n : ℕ) → a ≤ 2 → b ≤ 2 → 1 ≤ a + b → w ≤ 2 * n → h ≤ 2 * n → n ≤ w + h → (a + w ≤ 2 * suc n) × (b + h ≤ 2 * suc n) ×
+        (suc n ≤ a + w + (b + h))
     step a b w h n p q r s t u = (omega arith, omega arith, omega arith)

@@ -24,14 +24,16 @@ one-each f g [] h = omega arith
 one-each f g (m ∷ L) h = let a = h m (inl refl) in let b = one-each f g L (λ s k. h s (inr k)) in omega arith
 
 module _ (nums cand : List ℕ) (here : Here) (m j : ℕ) (r : Child) (o : Opened nums cand here m j r) where
-  fills : (permitted : ℕ → Bool) (ns : List ℕ) → T (all permitted ns) → Same (aimOf here) (Sum (Sum (partialSum here) (AtMask m)) (AtSum ns)) → Fills permitted (aimOf here) (Sum (partialSum here) (AtMask m)) ns
+  fills : (permitted : ℕ → Bool) (ns : List ℕ) → T (all permitted ns) → Same (aimOf here) (Sum (Sum (partialSum here) (AtMask m)) (AtSum ns))
+      → Fills permitted (aimOf here) (Sum (partialSum here) (AtMask m)) ns
   fills permitted ns t e = record { masks = In-all permitted ns t; whole = e }
 
   -- what the quick search answered
   pub led : Led nums cand here j m r
   led = record {
     below = o .below;
-    no = λ e room permitted s a every t ns l all-ns w. o .no e room permitted s a t ns (fills permitted ns all-ns w) (λ k h. every k (In-all permitted ns all-ns k h)) (omega arith);
+    no = λ e room permitted s a every t ns l all-ns w. o .no e room permitted s a t ns (fills permitted ns all-ns w)
+        (λ k h. every k (In-all permitted ns all-ns k h)) (omega arith);
   }
 
   -- fewer extents are needed than there are stages to come

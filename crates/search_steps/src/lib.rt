@@ -38,8 +38,8 @@ fn too_many(need: [u8; 18], j: usize) -> bool
     w + h < j
 }
 
-// The partial sum below by the stage m, with j stages after it. It is passed over where the extents that are needed are fewer than the stages left, or where the
-// quick search says that nothing completes it.
+// The partial sum below by the stage m, with j stages after it. It is passed over where the extents that are needed are fewer than the stages left, or where
+// the quick search says that nothing completes it.
 fn tried(here: Here, nums: &[u8; 9216], cand: &[u16], j: usize, m: u16) -> Child
     ensures { λ r. ⌜ Led (now (nums .entry)) (now (cand .entry)) here j m r ⌝ }
 {
@@ -159,7 +159,9 @@ fn by_length(
     nums: &[u8; 9216],
     cand: &[u16],
 ) -> Chosen
-    requires { ⌜ (w ≤ 15) × ((h ≤ 15) × ((Greatest column (At cells) w × Greatest row (At cells) h) × (Candidates isStage (At cells) 512 (now marks) × Questioned (now marks) cells need (now nums) (now cand)))) ⌝ }
+    requires { ⌜ (w ≤ 15) × ((h ≤ 15) ×
+        ((Greatest column (At cells) w × Greatest row (At cells) h) ×
+        (Candidates isStage (At cells) 512 (now marks) × Questioned (now marks) cells need (now nums) (now cand)))) ⌝ }
     ensures { λ r. ⌜ Shortest isStage (At cells) (r .found) (r .n) (r .masks) ⌝ }
 {
     let mut k = least_count(w, h);
@@ -203,8 +205,8 @@ fn deepening(cells: [u16; 16], w: usize, h: usize) -> Chosen
     by_length(cells, w, h, &marks, need, &nums, &list[0..n])
 }
 
-// The fewest stages that sum to the cells, of several such lists the first in order, or that no list of stages does. Where a face of the cells is none that a sum
-// can have, nothing is searched.
+// The fewest stages that sum to the cells, of several such lists the first in order, or that no list of stages does. Where a face of the cells is none that
+// a sum can have, nothing is searched.
 pub fn shortest(cells: [u16; 16]) -> Chosen
     ensures { λ r. ⌜ Shortest isStage (At cells) (r .found) (r .n) (r .masks) ⌝ }
 {

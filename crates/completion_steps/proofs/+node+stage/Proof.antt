@@ -130,7 +130,8 @@ node-stage-requires t c κs =
     let st = high .before .before .before .before .before in
     let need = st .args .here .need in
     let k = st .args .k in
-    let some : 0 < k = some-left (getD need 16 0) (getD need 17 0) k (λ e f. ⊎-elim (λ w. w .1 .left f) (λ w. w .left e) (high .before .before .if1 .came)) (high .before .if3 .left) (high .if4 .left) in
+    let some : 0 < k = some-left (getD need 16 0) (getD need 17 0) k (λ e f. ⊎-elim (λ w. w .1 .left f) (λ w. w .left e) (high .before .before .if1 .came))
+    (high .before .if3 .left) (high .if4 .left) in
     let r = c .before .before .before .loop .r in
     let part : length (take (n - 0) list) ≡ n = omega (arith, length-take (n - 0) list) in
     (omega arith, (some, (st .pre .1 .0, (omega arith, (omega (arith, part), omega (arith, part))))))
@@ -199,7 +200,8 @@ stage-step-requires t c κs = search needs
 stage-returns-2 : (t : ℕ) → stage-lts.Need-returns-2 (stage-claims t) (stage-at t) stage.Post
 stage-returns-2 t c = λ e.
     let st = c .before .before .before .before .before .before .before .before in
-    stage-passed _ _ _ _ _ (st .pre .1 .1 .1 .0) (st .pre .1 .1 .1 .1 .0) _ (c .before .before .step .ensures) (not-true _ (c .if2 .taken)) (omega (arith, st .pre))
+    stage-passed _ _ _ _ _ (st .pre .1 .1 .1 .0) (st .pre .1 .1 .1 .1 .0) _ (c .before .before .step .ensures) (not-true _ (c .if2 .taken))
+    (omega (arith, st .pre))
 
 stage-sub-node : (t : ℕ) → stage-lts.Need-sub-node (stage-claims t) (stage-at t) stage.Post
 stage-sub-node t c = search needs
@@ -229,7 +231,8 @@ stage-returns-3 t c = λ e.
     let list = now (st .args .list) in
     let whole : st .args .r - 0 ≡ st .args .r = omega arith in
     let h = c .before .before .before .before .before .step .result .here in
-    stage-none _ _ list (st .args .r) _ (st .pre .1 .1 .1 .0) (st .pre .1 .1 .1 .1 .0) _ (c .before .before .before .before .before .step .ensures) (not-false _ (c .before .before .before .if2 .left)) (st .pre .1 .0)
+    stage-none _ _ list (st .args .r) _ (st .pre .1 .1 .1 .0) (st .pre .1 .1 .1 .1 .0) _ (c .before .before .before .before .before .step .ensures)
+    (not-false _ (c .before .before .before .if2 .left)) (st .pre .1 .0)
     (subst (λ (n : ℕ). NoneHere (now (st .args .nums)) h (take n list) (st .args .k - 1)) whole (c .node .ensures e))
 
 pub +node+stage-spec : {M : Type 1} → statement M

@@ -14,7 +14,8 @@ returns : tie.Need-returns
 returns c =
     let st = c .before .before .before in
     let h = st .args .here in
-    opened-outside (now (st .args .nums)) (now (st .args .cand)) h (st .args .m) (st .args .k) (λ r. c .before .roomy .ensures .1 (not-true _ (c .if1 .taken)) (r .list) (r .path))
+    opened-outside (now (st .args .nums)) (now (st .args .cand)) h (st .args .m) (st .args .k)
+    (λ r. c .before .roomy .ensures .1 (not-true _ (c .if1 .taken)) (r .list) (r .path))
 
 step-requires : tie.Need-step-requires
 step-requires c κs = search needs
@@ -35,14 +36,17 @@ returns-3 : tie.Need-returns-3
 returns-3 c =
     let st = c .before .before .before .before .before .before .before .before .before in
     let h = st .args .here in
-    opened-none (now (st .args .nums)) (now (st .args .cand)) h (st .args .m) (st .args .k) _ (c .before .before .before .before .before .step .ensures) (not-false _ (c .before .before .before .if2 .left)) (c .before .node .ensures (not-true _ (c .if3 .taken)))
+    opened-none (now (st .args .nums)) (now (st .args .cand)) h (st .args .m) (st .args .k) _ (c .before .before .before .before .before .step .ensures)
+    (not-false _ (c .before .before .before .if2 .left)) (c .before .node .ensures (not-true _ (c .if3 .taken)))
 
 returns-4 : tie.Need-returns-4
 returns-4 c =
     let st = c .before .before .before .before .before .before .before .before .before in
     let h = st .args .here in
-    let room = c .before .before .before .before .before .before .before .roomy .ensures .0 (not-false _ (c .before .before .before .before .before .before .if1 .left)) in
-    opened-yes (now (st .args .nums)) (now (st .args .cand)) h (st .args .m) (st .args .k) _ (c .before .before .before .before .before .step .ensures) (not-false _ (c .before .before .before .if2 .left)) (record { list = room .0; path = room .1 })
+    let room = c .before .before .before .before .before .before .before .roomy .ensures .0
+    (not-false _ (c .before .before .before .before .before .before .if1 .left)) in
+    opened-yes (now (st .args .nums)) (now (st .args .cand)) h (st .args .m) (st .args .k) _ (c .before .before .before .before .before .step .ensures)
+    (not-false _ (c .before .before .before .if2 .left)) (record { list = room .0; path = room .1 })
 
 pub opened-spec : {M : Type 1} → statement M
 opened-spec =

@@ -33,7 +33,8 @@ returns-2 c =
     let st = c .before .before .before .before .before .before .before .before .before .before in
     let g = c .before .before .store .ensures in
     let t = st .pre .0 .stages (st .args .m) (eq-eqb (c .before .before .before .before .before .before .if1 .left)) in
-    let n = stage-numbers (st .args .m) t _ _ (c .before .before .before .before .before .mask-rows .ensures) (c .before .before .before .before .numbers .ensures) in
+    let n = stage-numbers (st .args .m) t _ _ (c .before .before .before .before .before .mask-rows .ensures)
+    (c .before .before .before .before .numbers .ensures) in
     (g .long, λ h. tabled-more (now (st .args .marks)) (now (st .args .table)) (st .args .m) h _ _ g n)
 
 pub entered-spec : {M : Type 1} → statement M

@@ -50,8 +50,10 @@ loop-again c =
     let marks = now (st .before .args .marks) in (
       omega arith,
       ⊎-elim
-          (λ w. subst (λ (k : ℕ). Drawn marks (l .m + 1) (set (l .list) (l .n) (l .m)) k) (sym (w .1)) (drawn-more marks (l .list) (l .n) (l .m) (omega arith) (l .inv .1) (eq-eqb (w .0 .taken))))
-          (λ w. subst (λ (k : ℕ). Drawn marks (l .m + 1) (set (l .list) (l .n) (l .m)) k) (sym (w .1)) (drawn-skip marks (l .list) (l .n) (l .m) (omega arith) (l .inv .1) (λ t. w .0 .left (eqb→eq _ _ t))))
+          (λ w. subst (λ (k : ℕ). Drawn marks (l .m + 1) (set (l .list) (l .n) (l .m)) k) (sym (w .1))
+          (drawn-more marks (l .list) (l .n) (l .m) (omega arith) (l .inv .1) (eq-eqb (w .0 .taken))))
+          (λ w. subst (λ (k : ℕ). Drawn marks (l .m + 1) (set (l .list) (l .n) (l .m)) k) (sym (w .1))
+          (drawn-skip marks (l .list) (l .n) (l .m) (omega arith) (l .inv .1) (λ t. w .0 .left (eqb→eq _ _ t))))
           (c .if1 .came),
     )
 

@@ -29,7 +29,8 @@ same-requires c κs = search needs
 returns-2 : tie.Need-returns-2
 returns-2 c =
     let st = c .before .before .before .before .before .before in
-    mark-one stage _ (st .args .m) _ refl (subst T (sym (not-false _ (c .before .before .before .before .if1 .left)) ∙ c .before .before .before .before .before .is-stage .ensures) tt)
+    mark-one stage _ (st .args .m) _ refl (subst T
+    (sym (not-false _ (c .before .before .before .before .if1 .left)) ∙ c .before .before .before .before .before .is-stage .ensures) tt)
 
 returns-3 : tie.Need-returns-3
 returns-3 c =

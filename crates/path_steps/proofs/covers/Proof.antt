@@ -25,7 +25,8 @@ same-requires-2 c κs = search needs
 returns-2 : tie.Need-returns-2
 returns-2 c = λ e d.
     let st = c .before .before .before .before .before in
-    c .same2 .ensures .1 e (carried-end (Sum (At (st .args .t)) (AtMask (st .args .m))) _ _ _ _ _ (rows16 (st .args .target) _ (st .good .0)) (c .before .before .before .before .grown .ensures) (c .before .carried .ensures) d)
+    c .same2 .ensures .1 e (carried-end (Sum (At (st .args .t)) (AtMask (st .args .m))) _ _ _ _ _ (rows16 (st .args .target) _ (st .good .0))
+    (c .before .before .before .before .grown .ensures) (c .before .carried .ensures) d)
 
 pub covers-spec : {M : Type 1} → statement M
 covers-spec =

@@ -22,7 +22,8 @@ returns-2 c =
     record {
       few = λ e. absurd (false≢true e);
       whole = λ e. absurd (false≢true e);
-      part = λ e l f s. let b : getD (h .rest) 0 0 / 1 % 2 ≡ 1 = origin-left (h .target) (h .rest) (h .path) (h .len) f s in let g = c .if2 .taken in omega arith;
+      part = λ e l f s. let b : getD (h .rest) 0 0 / 1 % 2 ≡ 1 = origin-left (h .target) (h .rest) (h .path) (h .len) f s in let g = c .if2 .taken in
+          omega arith;
     }
 
 carried-requires : tie.Need-carried-requires

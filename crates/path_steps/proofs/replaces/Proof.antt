@@ -18,7 +18,8 @@ same-requires c κs = search needs
 returns-2 : tie.Need-returns-2
 returns-2 c =
     let st = c .before .before .before in
-    λ e. replacing _ _ _ _ _ (rows16 (st .args .t) _ (st .good .0)) (c .before .before .if1 .left) (st .pre) (c .before .shrunk .ensures) (c .same .ensures .0 e)
+    λ e. replacing _ _ _ _ _ (rows16 (st .args .t) _ (st .good .0)) (c .before .before .if1 .left) (st .pre) (c .before .shrunk .ensures)
+    (c .same .ensures .0 e)
 
 pub replaces-spec : {M : Type 1} → statement M
 replaces-spec = tie.close (tie.spec returns shrunk-requires same-requires returns-2)

@@ -97,7 +97,8 @@ node-returns-2 t c =
     let h = st .args .here in
     let l = c .before .before .before .before .before .loop in
     let p = c .before .stage in
-    subst (λ (d : Bool). FirstLine (tries (now (st .args .marks))) (aimOf h) (partialSum h) (st .args .k) (st .args .m) d (p .result .masks)) (sym (c .if3 .taken))
+    subst (λ (d : Bool). FirstLine (tries (now (st .args .marks))) (aimOf h) (partialSum h) (st .args .k) (st .args .m) d (p .result .masks))
+    (sym (c .if3 .taken))
     (passed-found _ _ _ (st .args .k) (st .args .m) (omega arith) (l .i) _ (l .inv .1) (p .ensures .0 (c .if3 .taken)))
 
 node-add-i : (t : ℕ) → node-lts.Need-add-i (node-claims t) (node-at t) node.Post node-Inv-loop node-μ-loop
@@ -121,7 +122,8 @@ node-returns-3 t c =
     let st = c .before .before .before .before in
     let h = st .args .here in
     let l = c .before .loop in
-    passed-all (tries (now (st .args .marks))) _ _ (st .args .k) (st .args .m) (omega arith) (l .i) _ (st .pre .1 .1 .pool .marked .stages) (l .inv .1) (c .loop-test .left) (zero-at 32)
+    passed-all (tries (now (st .args .marks))) _ _ (st .args .k) (st .args .m) (omega arith) (l .i) _ (st .pre .1 .1 .pool .marked .stages) (l .inv .1)
+    (c .loop-test .left) (zero-at 32)
 
 stage-sub-tried : (t : ℕ) → stage-lts.Need-sub-tried (stage-claims t) (stage-at t) stage.Post
 stage-sub-tried t c = search needs
@@ -136,7 +138,8 @@ stage-returns t c =
     let kept = st .pre .1 .1 .1 in
     let room = kept .room in (
       λ e. absurd (false≢true e),
-      λ e. below-none (tries (now (st .args .marks))) (now (st .args .nums)) (now (st .args .cand)) h (st .args .k) (st .args .m) _ (c .before .before .tried .ensures) (not-true _ (c .if1 .taken))
+      λ e. below-none (tries (now (st .args .marks))) (now (st .args .nums)) (now (st .args .cand)) h (st .args .k) (st .args .m) _
+          (c .before .before .tried .ensures) (not-true _ (c .if1 .taken))
           (record { list = kept .pool .few; path = omega arith }) (kept .state) (kept .pool .allowed) (kept .pool .all) (st .pre .1 .1 .0),
     )
 
@@ -153,8 +156,18 @@ stage-node-requires t c κs =
     let ok = not-false _ (c .before .if1 .left) in
     let falls = tr .ensures .below .falls ok in
     let longer = tr .ensures .below .longer ok .1 in
-    let low = mask-below (st .args .m) (kept .pool .marked .stages (st .args .m) (st .pre .1 .1 .0)) in
-    (omega arith, (omega arith, record { pool = kept .pool; room = omega arith; state = tr .ensures .below .ready ok (tries (now (st .args .marks))) (kept .state) (st .pre .1 .1 .0) }))
+    let low = mask-below (st .args .m) (kept .pool .marked .stages (st .args .m) (st .pre .1 .1 .0)) in (
+      omega arith,
+      (
+        omega arith,
+        record {
+          pool = kept .pool;
+          room = omega arith;
+          state = tr .ensures .below .ready ok (tries (now (st .args .marks)))
+              (kept .state) (st .pre .1 .1 .0);
+        },
+      ),
+    )
 
 stage-returns-2 : (t : ℕ) → stage-lts.Need-returns-2 (stage-claims t) (stage-at t) stage.Post
 stage-returns-2 t c =
@@ -162,7 +175,9 @@ stage-returns-2 t c =
     let h = st .args .here in
     let n = c .before .before .node in (
       λ e. absurd (false≢true e),
-      λ e. below-closed (tries (now (st .args .marks))) (now (st .args .nums)) (now (st .args .cand)) h (st .args .k) (st .args .m) _ (c .before .before .before .before .before .before .tried .ensures) (not-false _ (c .before .before .before .before .if1 .left)) (st .pre .1 .0) (st .pre .1 .1 .0) _ _
+      λ e. below-closed (tries (now (st .args .marks))) (now (st .args .nums)) (now (st .args .cand)) h (st .args .k) (st .args .m) _
+          (c .before .before .before .before .before .before .tried .ensures) (not-false _ (c .before .before .before .before .if1 .left)) (st .pre .1 .0)
+          (st .pre .1 .1 .0) _ _
           (n .ensures) (not-true _ (c .if2 .taken)),
     )
 
@@ -183,7 +198,9 @@ stage-returns-3 t c =
     let n = c .before .before .node in
     let f = not-false _ (c .if2 .left) in
     let l : length (n .result .masks) ≡ 32 = field-length 32 (n .result .masks) (n .ok .1 .1 .1 .0 .1 .0 .1) in (
-      λ e. below-found (tries (now (st .args .marks))) (now (st .args .nums)) (now (st .args .cand)) h (st .args .k) (st .args .m) _ (c .before .before .before .before .before .before .tried .ensures) (not-false _ (c .before .before .before .before .if1 .left)) (st .pre .1 .0) (st .pre .1 .1 .0) _ _
+      λ e. below-found (tries (now (st .args .marks))) (now (st .args .nums)) (now (st .args .cand)) h (st .args .k) (st .args .m) _
+          (c .before .before .before .before .before .before .tried .ensures) (not-false _ (c .before .before .before .before .if1 .left)) (st .pre .1 .0)
+          (st .pre .1 .1 .0) _ _
           (n .ensures) f (omega arith),
       λ e. absurd (true≢false (sym f ∙ e)),
     )

@@ -41,9 +41,11 @@ returns c =
     let v = c .before .before .before .before .before .numbers in
     let g = st .pre .1 .1 in
     let whole : l .n ≡ l .n - 0 = omega arith in
-    let asked = questioned (l .marks) (a .cells) (p .ensures .marks) (v .result) (l .nums) (l .list) (l .n - 0) (a .w) (rows16 (a .cells) _ (st .good .0)) (g .0) (p .ensures .table) (v .ensures)
+    let asked = questioned (l .marks) (a .cells) (p .ensures .marks) (v .result) (l .nums) (l .list) (l .n - 0) (a .w) (rows16 (a .cells) _ (st .good .0))
+    (g .0) (p .ensures .table) (v .ensures)
     (subst (λ (n : ℕ). Drawn (l .marks) 512 (l .list) n) whole (p .ensures .list)) in
-    no-plan (l .marks) (a .cells) (v .result) (l .nums) (take (l .n - 0) (l .list)) (p .ensures .marks) asked (a .w) (a .h) (g .0) (g .1) (c .before .may-sum .ensures (not-true _ (c .if1 .taken)))
+    no-plan (l .marks) (a .cells) (v .result) (l .nums) (take (l .n - 0) (l .list)) (p .ensures .marks) asked (a .w) (a .h) (g .0) (g .1)
+    (c .before .may-sum .ensures (not-true _ (c .if1 .taken)))
 
 sub-by-length : tie.Need-sub-by-length
 sub-by-length c = search needs
@@ -63,7 +65,8 @@ by-length-requires c κs =
     let v = c .before .before .before .before .before .before .before .before .before .numbers in
     let g = st .pre .1 .1 in
     let whole : l .n ≡ l .n - 0 = omega arith in
-    let asked = questioned (l .marks) (a .cells) (p .ensures .marks) (v .result) (l .nums) (l .list) (l .n - 0) (a .w) (rows16 (a .cells) _ (st .good .0)) (g .0) (p .ensures .table) (v .ensures)
+    let asked = questioned (l .marks) (a .cells) (p .ensures .marks) (v .result) (l .nums) (l .list) (l .n - 0) (a .w) (rows16 (a .cells) _ (st .good .0))
+    (g .0) (p .ensures .table) (v .ensures)
     (subst (λ (n : ℕ). Drawn (l .marks) 512 (l .list) n) whole (p .ensures .list)) in
     (omega arith, (omega arith, (g, (p .ensures .marks, asked))))
 

@@ -15,7 +15,8 @@ returns : tie.Need-returns
 returns c =
     let st = c .before .before .before in
     let a = st .args in
-    no-answer (now (a .marks)) (a .cells) (a .need) (now (a .nums)) (now (a .cand)) (st .pre .1) (a .k) (c .before .may-sum .ensures (not-true _ (c .if1 .taken)))
+    no-answer (now (a .marks)) (a .cells) (a .need) (now (a .nums)) (now (a .cand)) (st .pre .1) (a .k)
+    (c .before .may-sum .ensures (not-true _ (c .if1 .taken)))
 
 node-requires : tie.Need-node-requires
 node-requires c κs =

@@ -23,7 +23,9 @@ returns-2 : tie.Need-returns-2
 returns-2 c =
     let st = c .before .before .before .before .before .before .before .before in
     let h = st .args .here in
-    led-few (now (st .args .nums)) (now (st .args .cand)) h (st .args .m) (st .args .j) _ (c .before .before .before .before .before .before .opened .ensures) (not-false _ (c .before .before .before .before .if1 .left)) (ltb-true _ _ (sym (c .before .too-many .ensures) ∙ c .if2 .taken))
+    led-few (now (st .args .nums)) (now (st .args .cand)) h (st .args .m) (st .args .j) _
+    (c .before .before .before .before .before .before .opened .ensures) (not-false _ (c .before .before .before .before .if1 .left))
+    (ltb-true _ _ (sym (c .before .too-many .ensures) ∙ c .if2 .taken))
 
 returns-3 : tie.Need-returns-3
 returns-3 c =

@@ -13,7 +13,8 @@ use Rattle.pool_steps.proofs.numbers.fits.Statement.{statement}
 use Rattle.pool_steps.proofs.numbers.fits.Tie as tie
 
 abbrev Inv-loop : tie.InvT-loop
-Inv-loop nums m need at over₀ i₀ over i = (i ≤ 18) × ((over ≡ 0 → (k : ℕ) → k < i → numberIn nums k m ≤ getD need k 0) × (Fit (numberIn nums) need m → over ≡ 0))
+Inv-loop nums m need at over₀ i₀ over i = (i ≤ 18) × ((over ≡ 0 → (k : ℕ) → k < i → numberIn nums k m ≤ getD need k 0) ×
+    (Fit (numberIn nums) need m → over ≡ 0))
 
 abbrev μ-loop : tie.MeasureT-loop
 μ-loop nums m need at over₀ i₀ over i = 18 - i

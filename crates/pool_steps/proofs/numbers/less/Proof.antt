@@ -12,7 +12,8 @@ use Rattle.pool_steps.proofs.numbers.less.Statement.{statement}
 use Rattle.pool_steps.proofs.numbers.less.Tie as tie
 
 abbrev Inv-loop : tie.InvT-loop
-Inv-loop nums m need at r₀ i₀ r i = (i ≤ 18) × ((length r ≡ 18) × (((k : ℕ) → k < i → getD r k 0 ≡ getD need k 0 - numberIn nums k m) × ((k : ℕ) → i ≤ k → getD r k 0 ≡ getD need k 0)))
+Inv-loop nums m need at r₀ i₀ r i = (i ≤ 18) × ((length r ≡ 18) ×
+    (((k : ℕ) → k < i → getD r k 0 ≡ getD need k 0 - numberIn nums k m) × ((k : ℕ) → i ≤ k → getD r k 0 ≡ getD need k 0)))
 
 abbrev μ-loop : tie.MeasureT-loop
 μ-loop nums m need at r₀ i₀ r i = 18 - i

@@ -32,7 +32,8 @@ returns-3 c =
     let i = c .before .before .before .before .scarce in
     let bound = i .ensures .0 in
     let left = c .before .before .before .if2 .left in
-    divided-by _ _ _ _ _ _ _ _ _ (omega arith) (omega arith) (i .ensures .1 .0 (omega arith)) (c .before .before .before .before .before .before .before .fitted .ensures) (c .split .ensures)
+    divided-by _ _ _ _ _ _ _ _ _ (omega arith) (omega arith) (i .ensures .1 .0 (omega arith))
+    (c .before .before .before .before .before .before .before .fitted .ensures) (c .split .ensures)
 
 pub divided-spec : {M : Type 1} → statement M
 divided-spec =

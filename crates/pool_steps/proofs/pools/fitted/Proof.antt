@@ -46,14 +46,23 @@ loop-less c = search needs
 loop-again : tie.Need-loop-again Inv-loop μ-loop
 loop-again c =
     let st = c .before .before .before in
-    let args = st .before .before .args in
-    (omega arith, fitted-more (now (args .nums)) (args .need) (now (args .cand)) (st .loop .list) (st .loop .n) (st .loop .j) _ _ (omega arith) refl (c .fitting .ensures .0) (c .fitting .ensures .1 .0) (c .fitting .ensures .1 .1) (st .loop .inv .1))
+    let args = st .before .before .args in (
+      omega arith,
+      fitted-more (now (args .nums)) (args .need) (now (args .cand)) (st .loop .list) (st .loop .n) (st .loop .j) _ _ (omega arith) refl
+          (c .fitting .ensures .0) (c .fitting .ensures .1 .0) (c .fitting .ensures .1 .1) (st .loop .inv .1),
+    )
 
 returns : tie.Need-returns Inv-loop μ-loop
 returns c =
     let h = c .before .loop .inv .1 in
     let few = h .few in
-    record { all = λ m b a f. h .all m b (among-more _ _ _ m (omega arith) a) f; only = λ m a. among-more _ _ _ m (omega arith) (h .only m a); fit = h .fit; few = omega arith; room = omega arith }
+    record {
+      all = λ m b a f. h .all m b (among-more _ _ _ m (omega arith) a) f;
+      only = λ m a. among-more _ _ _ m (omega arith) (h .only m a);
+      fit = h .fit;
+      few = omega arith;
+      room = omega arith;
+    }
 
 pub fitted-spec : {M : Type 1} → statement M
 fitted-spec =

@@ -11,7 +11,8 @@ use Rattle.pool_steps.proofs.pools.scarce.Statement.{statement}
 use Rattle.pool_steps.proofs.pools.scarce.Tie as tie
 
 abbrev Inv-loop : tie.InvT-loop
-Inv-loop need count best₀ few₀ i₀ best few i = (i ≤ 18) × ((best ≤ 18) × ((best < 18 → 0 < getD need best 0) × (best ≡ 18 → (k : ℕ) → k < i → getD need k 0 ≡ 0)))
+Inv-loop need count best₀ few₀ i₀ best few i = (i ≤ 18) × ((best ≤ 18) ×
+    ((best < 18 → 0 < getD need best 0) × (best ≡ 18 → (k : ℕ) → k < i → getD need k 0 ≡ 0)))
 
 abbrev μ-loop : tie.MeasureT-loop
 μ-loop need count best₀ few₀ i₀ best few i = 18 - i

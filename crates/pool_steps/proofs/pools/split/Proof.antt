@@ -57,8 +57,14 @@ loop-less c = search needs
 
 loop-again : tie.Need-loop-again Inv-loop μ-loop
 loop-again c =
-    let h = c .before .before .before .loop in
-    (omega arith, (omega arith, λ w. split-more _ _ _ (h .list) (h .other) (h .p) (h .q) (h .j) _ _ (omega arith) refl (c .having .ensures .0) (c .having .ensures .1 .0) (c .having .ensures .1 .1) (h .inv .1 .1 w)))
+    let h = c .before .before .before .loop in (
+      omega arith,
+      (
+        omega arith,
+        λ w. split-more _ _ _ (h .list) (h .other) (h .p) (h .q) (h .j) _ _ (omega arith) refl (c .having .ensures .0)
+            (c .having .ensures .1 .0) (c .having .ensures .1 .1) (h .inv .1 .1 w),
+      ),
+    )
 
 appended-requires : tie.Need-appended-requires Inv-loop μ-loop
 appended-requires c κs = search needs
