@@ -30,8 +30,9 @@ use Rattle.cleaning.proofs.Turn.{says}
 use Rattle.claim.specs.Demand2.{GridShows, stageMade}
 
 shows : (W H : ℕ) (F : Point → ℕ) (S : PointSet) (i i′ : List ℕ) → Binary F → occupied F ≐ S → gridSize W H ≤ length i
-    → i′ ≡ written W H (laid W H F) i → GridShows W H S i i′
-shows W H F S i i′ b s long e = record {
+    → (r : Answer) → stated r ≡ result 0 → i′ ≡ written W H (laid W H F) i → GridShows W H S i r i′
+shows W H F S i i′ b s long r a e = record {
+  answer = a;
   size = ap length e ∙ over-length g i G G size (omega arith) long;
   past = ap (drop G) e ∙ over-past g i G G size (omega arith) long;
   cell = λ x y h k. let p : Point = (pos x, pos y) in subst (λ n. Says n (S p)) (sym (at x y h k)) (says (F p) (S p) (b p) (s p));
@@ -53,12 +54,12 @@ shows W H F S i i′ b s long e = record {
         ap (λ v. getD v (y * (W + 15) + x) 0) e ∙ List·getD-append g (drop G i) 0 (y * (W + 15) + x) l ∙ getD-cells (W + 15) (H + 15) F x y 0 h k
 
 pub put-shown : (W H : ℕ) (f i : List ℕ) (r : Answer) (i′ : List ℕ) → FramePut W H f i r i′ → firstOf (putTests W H f i) ≡ 0
-    → GridShows W H (occupied (frame free W H f)) i i′
+    → GridShows W H (occupied (frame free W H f)) i r i′
 unfolding frameTests putTests put
 put-shown W H f i r i′ p e =
     let c = clear (putTests W H f i) tt e in
     shows W H (frame free W H f) (occupied (frame free W H f)) i i′ (frame-binary W H f (binary f (c .1 .1 .0))) (λ p. (λ h. h, λ h. h))
-    (nltb→le (length i) (gridSize W H) (c .1 .1 .1 .0)) (p .done e .image)
+    (nltb→le (length i) (gridSize W H) (c .1 .1 .1 .0)) r (p .done e .answer) (p .done e .image)
 
 -- the picture that a stage makes has the points that the plane's definitions give
 made-is : (erode : Bool) (P : List Point) (f : Point → ℕ) → Binary f → occupied (over erode P f) ≐ stageMade erode (occupied f) (In P)
@@ -66,7 +67,7 @@ made-is true P f b = E-set P f b
 made-is false P f b = D-set P f b
 
 pub stage-shown : (erode : Bool) (w W H : ℕ) (g i : List ℕ) (r : Answer) (i′ : List ℕ) → Staged erode w W H g i r i′ → firstOf (stageTests w W H g i) ≡ 0
-    → GridShows W H (stageMade erode (occupied (grid free W H g)) (In (maskPoints (stageMask w)))) i i′
+    → GridShows W H (stageMade erode (occupied (grid free W H g)) (In (maskPoints (stageMask w)))) i r i′
 unfolding stageTests
 stage-shown erode w W H g i r i′ p e =
     let c = clear (stageTests w W H g i) tt e in
@@ -75,7 +76,7 @@ stage-shown erode w W H g i r i′ p e =
     let u = not-or (shortImage W H g) (shortImage W H i) .0 (c .1 .1 .1 .1 .1 .0) in
     shows W H (over erode (maskPoints m) (grid free W H g)) (stageMade erode (occupied (grid free W H g)) (In (maskPoints m))) i i′
     (over-binary erode (maskPoints m) (grid free W H g) b) (made-is erode (maskPoints m) (grid free W H g) b)
-    (nltb→le (length i) (gridSize W H) (u .1)) (p .done e .image ∙ ap (λ l. written W H l i) (once-is erode free W H m g))
+    (nltb→le (length i) (gridSize W H) (u .1)) r (p .done e .answer) (p .done e .image ∙ ap (λ l. written W H l i) (once-is erode free W H m g))
 
 pub load-counted : (W H : ℕ) (f : List ℕ) (r : Answer) → LoadCounted W H f r → firstOf (frameTests W H f) ≡ 0
     → stated r ≡ result (length (keep (λ p. eqb (frame free W H f p) full) (cells W H (λ p. p))))

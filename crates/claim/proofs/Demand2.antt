@@ -6,11 +6,11 @@ use mathlib.Core.List.{List, [], _∷_}
 use Prim.Native.Nat.{ℕ}
 use lib.Dec.{T}
 use lib.ListN.{length, take, drop}
-use lib.Seq.{take-append-seam}
+use lib.Seq.{take-append-seam, drop-append-seam}
 use Rattle.words.specs.declared.Answer.{Answer}
 use Rattle.cleaning.specs.declared.Operation.{Operation}
 use Rattle.plane.specs.Lists.{In}
-use Rattle.plane.specs.Point.{Point, _+ᵖ_, _-ᵖ_, _≐_, moved}
+use Rattle.plane.specs.Point.{Point, PointSet, _+ᵖ_, _-ᵖ_, _≐_, moved}
 use Rattle.plane.proofs.Algebra.{≐-trans, +ᵖ-cancel, subᵖ-cancel}
 use Rattle.plane.proofs.Member.{In-map, In-append}
 use Rattle.words.specs.Ground.{firstOf, stated, both}
@@ -25,13 +25,18 @@ use Rattle.shapes.proofs.Written.{plan-points}
 use Rattle.planning.specs.Planning.{ShapeSet}
 use Rattle.cleaning.specs.Cleaning.{Cleaned, operationTests, part}
 use Rattle.cleaning.specs.Operation.{Direct}
-use Rattle.claim.specs.Demand2.{Demand2}
+use Rattle.claim.specs.Demand2.{ListShows, Demand2}
 use Rattle.claim.proofs.Cells.{put-shown, stage-shown, load-counted}
 
-stands : (A : List Point) (out out′ : List ℕ) (r : Answer) → T (not (outOfRange A)) → ListWritten A out r out′ → ShapeSet (take (stated r .1) out′) ≐ In A
-stands A out out′ r fit w =
-    let head : take (stated r .1) out′ ≡ listed A = ap₂ (λ s o. take (s .1) o) (w .answer) (w .words) ∙ take-append-seam (listed A) (drop (length (listed A)) out) in
-    subst (λ l. In (shapePoints l) ≐ In A) (sym head) (listed-points A fit)
+-- a list that is written stands for its points, and so for any set that has these
+shown : (A : List Point) {S : PointSet} (out out′ : List ℕ) (r : Answer) → T (not (outOfRange A)) → In A ≐ S → ListWritten A out r out′ → ListShows S out r out′
+shown A out out′ r fit same w =
+    let rest = drop (length (listed A)) out in
+    let head : take (stated r .1) out′ ≡ listed A = ap₂ (λ s o. take (s .1) o) (w .answer) (w .words) ∙ take-append-seam (listed A) rest in
+    record {
+      stands = ≐-trans (subst (λ l. In (shapePoints l) ≐ In A) (sym head) (listed-points A fit)) same;
+      past = ap₂ (λ s o. drop (s .1) o) (w .answer) (w .words) ∙ drop-append-seam (listed A) rest ∙ sym (ap (λ s. drop (s .1) out) (w .answer));
+    }
 
 moved-is : (ws : List ℕ) (d : Point) → In (movedPoints ws d) ≐ moved d (ShapeSet ws)
 moved-is ws d p = (
@@ -64,10 +69,10 @@ part-direct op plan W H f i j s i′ j′ c e =
 
 pub demand2 : Demand2
 demand2 = record {
-  moving = λ ws d out r out′ a e. ≐-trans (stands (movedPoints ws d) out out′ r (moved-fits ws d out e) (a .done e)) (moved-is ws d);
-  joining = λ ws vs out r out′ a e. ≐-trans (stands (joinedPoints ws vs) out out′ r (joined-fits ws vs out e) (a .done e)) (In-append (shapePoints ws) (shapePoints vs));
-  summing = λ ws vs out r out′ a e. ≐-trans (stands (summedPoints ws vs) out out′ r (summed-fits ws vs out e) (a .done e)) (sums-is (shapePoints ws) (shapePoints vs));
-  turning = λ ws out r out′ a e. ≐-trans (stands (planPoints ws) out out′ r (turned-fits ws out e) (a .done e)) (plan-points ws);
+  moving = λ ws d out r out′ a e. shown (movedPoints ws d) out out′ r (moved-fits ws d out e) (moved-is ws d) (a .done e);
+  joining = λ ws vs out r out′ a e. shown (joinedPoints ws vs) out out′ r (joined-fits ws vs out e) (In-append (shapePoints ws) (shapePoints vs)) (a .done e);
+  summing = λ ws vs out r out′ a e. shown (summedPoints ws vs) out out′ r (summed-fits ws vs out e) (sums-is (shapePoints ws) (shapePoints vs)) (a .done e);
+  turning = λ ws out r out′ a e. shown (planPoints ws) out out′ r (turned-fits ws out e) (plan-points ws) (a .done e);
   cleaning = part-direct;
   putting = put-shown;
   staging = stage-shown;

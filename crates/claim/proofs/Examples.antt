@@ -1,20 +1,21 @@
 -- What the demands say on cases, each read off the demand alone: a demand that is loosened, or says another thing, no longer gives them.
-use mathlib.Core.Path.{_≡_, refl, sym, _∙_, ap}
+use mathlib.Core.Path.{_≡_, refl, sym, _∙_, ap, subst}
 use mathlib.Core.Logic.{inl, inr, ⊎-elim}
 use mathlib.Core.Bool.{false}
 use mathlib.Core.List.{List, [], _∷_}
 use Prim.Native.Nat.{ℕ, _+_, _≤_}
 use native.Mathlib.Omega.{arith}
 use lib.IntN.{pos}
-use lib.ListN.{length, take, getD, replicate}
+use lib.ListN.{length, take, drop, getD, replicate}
+use lib.Seq.{getD-drop}
 use Rattle.plane.specs.Point.{_+ᵖ_, negᵖ, origin}
 use Rattle.words.specs.Ground.{stated, result, refusal}
 use Rattle.words.specs.declared.Answer.{Answer}
 use Rattle.masks.specs.Chain.{Chain, subset}
 use Rattle.masks.specs.Mask.{stage, maskCells}
 use Rattle.masks.proofs.Measured.{four}
-use Rattle.shapes.specs.Calls.{TurnedBack}
-use Rattle.shapes.specs.Shape.{shapePoints, shapeTests}
+use Rattle.shapes.specs.Calls.{Moved, TurnedBack}
+use Rattle.shapes.specs.Shape.{shapePoints, shapeTests, outOfRange}
 use Rattle.planning.specs.Planning.{ShapeSet, Planned, PlanWritten}
 use Rattle.grids.specs.Frame.{frameTests, LoadCounted}
 use Rattle.grids.specs.Grid.{once, putTests, FramePut, stageTests, Staged}
@@ -61,6 +62,18 @@ stage-right D r i′ p = ⊎-elim
     (λ q. q .0)
     (λ q. absurd (q .1 ((pos 0, pos 0), (pos 1, pos 0), refl, inr (inl refl), refl)))
     (D .staging false 0x50000003 1 1 (1 ∷ replicate 255 0) (replicate 257 7) r i′ p refl .cell 1 0 (omega arith) (omega arith))
+
+-- and answers 0
+stage-answers : Demand2 → (r : Answer) (i′ : List ℕ) → Staged false 0x50000003 1 1 (1 ∷ replicate 255 0) (replicate 257 7) r i′ → stated r ≡ result 0
+unfolding stageTests stage maskCells
+stage-answers D r i′ p = D .staging false 0x50000003 1 1 (1 ∷ replicate 255 0) (replicate 257 7) r i′ p refl .answer
+
+-- two columns moved: the words past the two of the list are as they were
+moved-past : Demand2 → (r : Answer) (out′ : List ℕ) → Moved (0x10000000 ∷ 0x20000005 ∷ []) (pos 2, pos 3) (replicate 18 7) r out′ → stated r .1 ≡ 2 → getD out′ 17 0 ≡ 7
+unfolding shapeTests shapePoints outOfRange _+ᵖ_ negᵖ
+moved-past D r out′ p n =
+    let past = D .moving (0x10000000 ∷ 0x20000005 ∷ []) (pos 2, pos 3) (replicate 18 7) r out′ p refl .past in
+    sym (getD-drop 2 out′ 15 0) ∙ ap (λ l. getD l 15 0) (subst (λ k. drop k out′ ≡ drop k (replicate 18 7)) n past)
 
 -- one column of two rows, the second occupied, is so in the grid
 put-right : Demand2 → (r : Answer) (i′ : List ℕ) → FramePut 1 2 (0 ∷ 1 ∷ []) (replicate 273 7) r i′ → getD i′ 16 0 ≡ 1

@@ -26,8 +26,14 @@ use Rattle.cleaning.specs.Operation.{Says, Direct}
 use Rattle.cleaning.specs.Cleaning.{operationTests, part, Cleaned}
 use Rattle.cleaning.specs.declared.Operation.{Operation}
 
--- the image i then is i′, which shows the set S on its grid: cell (x, y) is 1 if (x, y) lies in S, and 0 if not; its length and the bytes past the grid stay
-pub record GridShows (W H : ℕ) (S : PointSet) (i i′ : List ℕ) : Type 0 where
+-- the words written to out, which then is out′, are as many as the number answered and stand for the set S; the words past them stay
+pub record ListShows (S : PointSet) (out : List ℕ) (r : Answer) (out′ : List ℕ) : Type 0 where
+  pub stands : ShapeSet (take (stated r .1) out′) ≐ S
+  pub past : drop (stated r .1) out′ ≡ drop (stated r .1) out
+
+-- 0 is answered, and the image i then is i′, which shows the set S on its grid: cell (x, y) is 1 if (x, y) lies in S, and 0 if not; its length and the bytes past the grid stay
+pub record GridShows (W H : ℕ) (S : PointSet) (i : List ℕ) (r : Answer) (i′ : List ℕ) : Type 0 where
+  pub answer : stated r ≡ result 0
   pub size : length i′ ≡ length i
   pub past : drop (gridSize W H) i′ ≡ drop (gridSize W H) i
   pub cell : (x y : ℕ) → x < W + 15 → y < H + 15 → Says (getD i′ (y * (W + 15) + x) 0) (S (pos x, pos y))
@@ -38,24 +44,24 @@ stageMade true X A = erosion X A
 stageMade false X A = dilation X A
 
 pub record Demand2 : Type 0 where
-  -- the words written, as many as the length returned, stand for exactly the points moved, joined or summed, or for those of the plan
+  -- the words written stand for exactly the points moved, joined or summed, or for those of the plan
   pub moving : (ws : List ℕ) (d : Point) (out : List ℕ) (r : Answer) (out′ : List ℕ) → Moved ws d out r out′ → firstOf (movingTests ws d out) ≡ 0
-      → ShapeSet (take (stated r .1) out′) ≐ moved d (ShapeSet ws)
+      → ListShows (moved d (ShapeSet ws)) out r out′
   pub joining : (ws vs out : List ℕ) (r : Answer) (out′ : List ℕ) → Joined ws vs out r out′ → firstOf (joiningTests ws vs out) ≡ 0
-      → ShapeSet (take (stated r .1) out′) ≐ (λ p. ShapeSet ws p ⊎ ShapeSet vs p)
+      → ListShows (λ p. ShapeSet ws p ⊎ ShapeSet vs p) out r out′
   pub summing : (ws vs out : List ℕ) (r : Answer) (out′ : List ℕ) → Summed ws vs out r out′ → firstOf (summingTests ws vs out) ≡ 0
-      → ShapeSet (take (stated r .1) out′) ≐ ShapeSet ws ⊕ ShapeSet vs
+      → ListShows (ShapeSet ws ⊕ ShapeSet vs) out r out′
   pub turning : (ws out : List ℕ) (r : Answer) (out′ : List ℕ) → TurnedBack ws out r out′ → firstOf (turningTests ws out) ≡ 0
-      → ShapeSet (take (stated r .1) out′) ≐ moved (planOffset ws) (In (sumOf (planMasks ws)))
+      → ListShows (moved (planOffset ws) (In (sumOf (planMasks ws)))) out r out′
   -- on every accepted plan list and frame, whoever wrote the plan, what is handed back for the number that the operation answered is what the plane's
   -- definitions make of the frame and the plan's points
   pub cleaning : (op : Operation) (plan : List ℕ) (W H : ℕ) (f i j : List ℕ) (s : Answer) (i′ j′ : List ℕ) → Cleaned op plan W H f i j s i′ j′
       → firstOf (operationTests plan W H f i j) ≡ 0 → Direct op W H f (In (planPoints plan)) (part (stated s .1) W H i′ j′)
   -- putting shows the frame's occupied points; a single stage those of the grid read, dilated or eroded by the mask's, with the plane free outside the grid
   pub putting : (W H : ℕ) (f i : List ℕ) (r : Answer) (i′ : List ℕ) → FramePut W H f i r i′ → firstOf (putTests W H f i) ≡ 0
-      → GridShows W H (occupied (frame free W H f)) i i′
+      → GridShows W H (occupied (frame free W H f)) i r i′
   pub staging : (erode : Bool) (w W H : ℕ) (g i : List ℕ) (r : Answer) (i′ : List ℕ) → Staged erode w W H g i r i′ → firstOf (stageTests w W H g i) ≡ 0
-      → GridShows W H (stageMade erode (occupied (grid free W H g)) (In (maskPoints (stageMask w)))) i i′
+      → GridShows W H (stageMade erode (occupied (grid free W H g)) (In (maskPoints (stageMask w)))) i r i′
   -- the load is the number of the frame's points that are occupied
   pub counting : (W H : ℕ) (f : List ℕ) (r : Answer) → LoadCounted W H f r → firstOf (frameTests W H f) ≡ 0
       → stated r ≡ result (length (keep (λ p. eqb (frame free W H f p) full) (cells W H (λ p. p))))
