@@ -10,7 +10,7 @@ use Rattle.words.specs.Ground.{firstOf}
 use Rattle.words.specs.Word.{stageMask, placeX, placeY}
 use Rattle.words.proofs.Refusals.{Clear, clear}
 use Rattle.shapes.specs.Plan.{planMasks, planTests, wrongPlanLength}
-use Rattle.shape_grounds.proofs.Lengths.{within}
+use Rattle.word_grounds.proofs.Lengths.{within}
 use Rattle.cleaning.specs.declared.Operation.{Operation}
 use Rattle.cleaning.specs.declared.Operation.the-variants.{Dilation, Erosion, Opening, Closing}
 use Rattle.cleaning.specs.Cleaning.{stagesRun}

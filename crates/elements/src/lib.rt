@@ -156,7 +156,7 @@ impl Shape {
         Window {
             ax: above(15, self.x),
             ay: above(15, self.y),
-            rows: row_steps::raised(rows, above(self.x, 15), above(self.y, 15) as usize),
+            rows: row_sum_steps::raised(rows, above(self.x, 15), above(self.y, 15) as usize),
         }
     }
 
@@ -210,7 +210,10 @@ fn union(a: Shape, b: Shape) -> Shape
         fits: true,
         x: x,
         y: y,
-        rows: row_steps::joined(row_steps::raised(p, i, j), row_steps::raised(q, k, l)),
+        rows: row_sum_steps::joined(
+            row_sum_steps::raised(p, i, j),
+            row_sum_steps::raised(q, k, l),
+        ),
     }
 }
 
@@ -237,7 +240,7 @@ fn sum(a: Shape, b: Shape) -> Shape
     ) {
         return nothing();
     }
-    let r = row_steps::sum_of(p, q);
+    let r = row_sum_steps::sum_of(p, q);
     if !within(r, x - 15, (y - 15) as usize, 30) {
         return nothing();
     }

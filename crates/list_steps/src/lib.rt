@@ -87,7 +87,7 @@ fn with_stage(z: [u16; 16], ws: &[u32], at: usize) -> [u16; 16]
     match word {
         Word::Stage(m) => {
             let mask = row_steps::mask_rows((m % 512) as u16);
-            row_steps::sum_of(z, mask)
+            row_sum_steps::sum_of(z, mask)
         }
         _ => z,
     }

@@ -1,6 +1,5 @@
 // What refuses a plan list, head, place and then the stages: the first of grounds 1 to 3 and 5 to 8 that holds. No point is built: ground 8 is tried by
-// the stages' extents.
-use shape_grounds::lists;
+// the stages' extents. The crate word_grounds has the tests of any list.
 use words::Answer;
 use words::Ground;
 ghost use mathlib.Core.Path.{_≡_};
@@ -26,7 +25,7 @@ fn wrong_kinds(ws: &[u32]) -> bool
     if ws[1] / 0x1000_0000 != 4 {
         return true;
     }
-    lists::wrong_kind(ws, 2, 5)
+    word_grounds::wrong_kind(ws, 2, 5)
 }
 
 // Ground 3: a head names 8 bits, a place 16, a stage 9.
@@ -40,7 +39,7 @@ fn extra_bits(ws: &[u32]) -> bool
     if ws[1] % 0x1000_0000 >= 0x1_0000 {
         return true;
     }
-    lists::extra_bit(ws, 2, 512)
+    word_grounds::extra_bit(ws, 2, 512)
 }
 
 // Ground 5: whether the head's count isn't the number of words less 2.
@@ -138,7 +137,7 @@ fn out_of_range(ws: &[u32]) -> bool
 pub fn plan_refusal(ws: &[u32]) -> Answer
     ensures { λ r. ⌜ stated r ≡ refusal (firstOf (planTests (now (ws .entry)))) ⌝ }
 {
-    if lists::wrong_length(ws, 2, 32) {
+    if word_grounds::wrong_length(ws, 2, 32) {
         return Answer::Refused(Ground::ListLength);
     }
     let kinds = words::tried(Answer::Done(0), wrong_kinds(ws), Ground::WordKind);

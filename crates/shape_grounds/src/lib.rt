@@ -1,6 +1,5 @@
 // What refuses a shape list or two: the first of grounds 1 to 4 of document 01 that holds; Done(0) where none does.
-// `lists` has the tests of any list, `shape` those of a shape list, `pair` those of two. None builds a point.
-pub mod lists;
+// `shape` has the tests of a shape list, `pair` those of two; the crate word_grounds has those of any list. None builds a point.
 mod pair;
 mod shape;
 

@@ -1,5 +1,4 @@
 // Grounds 1 to 4 of two shape lists, each ground over both.
-use super::lists;
 use super::shape;
 use words::Answer;
 use words::Ground;
@@ -14,10 +13,10 @@ ghost use Rattle.shapes.specs.Shape.{shapeTests, wrongShapeLength, wrongShapeKi
 fn wrong_lengths(ws: &[u32], vs: &[u32]) -> bool
     ensures { λ r. ⌜ r ≡ (wrongShapeLength (now (ws .entry)) || wrongShapeLength (now (vs .entry))) ⌝ }
 {
-    if lists::wrong_length(ws, 2, 17) {
+    if word_grounds::wrong_length(ws, 2, 17) {
         return true;
     }
-    lists::wrong_length(vs, 2, 17)
+    word_grounds::wrong_length(vs, 2, 17)
 }
 
 // Ground 2: whether a word of either list has another kind than its place calls for.

@@ -1,5 +1,4 @@
 // Grounds 1 to 4 of a shape list: one anchor and then its rows.
-use super::lists;
 use words::Answer;
 use words::Ground;
 ghost use mathlib.Core.Path.{_≡_};
@@ -17,7 +16,7 @@ pub(crate) fn wrong_kinds(ws: &[u32]) -> bool
     if ws[0] / 0x1000_0000 != 1 {
         return true;
     }
-    lists::wrong_kind(ws, 1, 2)
+    word_grounds::wrong_kind(ws, 1, 2)
 }
 
 // Ground 3: an anchor names 8 bits, a row 20.
@@ -28,7 +27,7 @@ pub(crate) fn extra_bits(ws: &[u32]) -> bool
     if ws[0] % 0x1000_0000 >= 256 {
         return true;
     }
-    lists::extra_bit(ws, 1, 0x10_0000)
+    word_grounds::extra_bit(ws, 1, 0x10_0000)
 }
 
 // Whether some row has no column.
@@ -73,7 +72,7 @@ pub(crate) fn wrong_rows(ws: &[u32]) -> bool
 pub(crate) fn refused(ws: &[u32]) -> Answer
     ensures { λ r. ⌜ stated r ≡ refusal (firstOf (shapeTests (now (ws .entry)))) ⌝ }
 {
-    if lists::wrong_length(ws, 2, 17) {
+    if word_grounds::wrong_length(ws, 2, 17) {
         return Answer::Refused(Ground::ListLength);
     }
     let kinds = words::tried(Answer::Done(0), wrong_kinds(ws), Ground::WordKind);

@@ -9,7 +9,7 @@ use Rattle.plane.proofs.Tests.{T-false}
 use Rattle.words.specs.Ground.{firstOf, stated, refusal}
 use Rattle.words.proofs.Refusals.{first-holds, first-fails, clear, tried-more}
 use Rattle.words.proofs.Tested.{no-refusal, refused-more}
-use Rattle.shape_grounds.proofs.Lengths.{within}
+use Rattle.word_grounds.proofs.Lengths.{within}
 use Rattle.shapes.specs.Plan.{planTests, wrongPlanLength, wrongMasks, planMasks}
 use Rattle.plan_grounds.proofs.plan_refusal.Statement.{statement}
 use Rattle.plan_grounds.proofs.plan_refusal.Tie as tie

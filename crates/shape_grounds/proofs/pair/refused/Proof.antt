@@ -7,7 +7,7 @@ use Prim.Native.Nat.{ℕ, _≤_}
 use lib.ListN.{length, take}
 use Rattle.words.specs.Ground.{refusal, both}
 use Rattle.words.proofs.Refusals.{first-holds, first-fails, tried-more}
-use Rattle.shape_grounds.proofs.Lengths.{within}
+use Rattle.word_grounds.proofs.Lengths.{within}
 use Rattle.plane.proofs.Tests.{or-none}
 use Rattle.shapes.specs.Shape.{shapeTests, wrongShapeLength}
 use Rattle.shape_grounds.proofs.pair.refused.Statement.{statement}

@@ -6,7 +6,7 @@ use Prim.Native.Nat.{_≤_}
 use lib.ListN.{length, take}
 use Rattle.words.specs.Ground.{refusal}
 use Rattle.words.proofs.Refusals.{first-holds, first-fails, tried-more}
-use Rattle.shape_grounds.proofs.Lengths.{within}
+use Rattle.word_grounds.proofs.Lengths.{within}
 use Rattle.shapes.specs.Shape.{shapeTests, wrongShapeLength}
 use Rattle.shape_grounds.proofs.shape.refused.Statement.{statement}
 use Rattle.shape_grounds.proofs.shape.refused.Tie as tie

@@ -1,7 +1,7 @@
 -- The two tests in turn.
 use borrow.Author.Tests.{lt-ltb, le-ltb}
-use Rattle.shape_grounds.proofs.lists.wrong_length.Statement.{statement}
-use Rattle.shape_grounds.proofs.lists.wrong_length.Tie as tie
+use Rattle.word_grounds.proofs.wrong_length.Statement.{statement}
+use Rattle.word_grounds.proofs.wrong_length.Tie as tie
 
 returns : tie.Need-returns
 returns c = simp (lt-ltb _ _ (c .if1 .taken))

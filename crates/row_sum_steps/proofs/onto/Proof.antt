@@ -7,8 +7,8 @@ use lib.Bits.{bitOr}
 use lib.ListN.{getD, length, length-set}
 use Rattle.rows.proofs.Fill.{Filled, fill-none, fill-more}
 use Rattle.rows.proofs.Shifts.{ored, was, onto-made}
-use Rattle.row_steps.proofs.onto.Statement.{statement}
-use Rattle.row_steps.proofs.onto.Tie as tie
+use Rattle.row_sum_steps.proofs.onto.Statement.{statement}
+use Rattle.row_sum_steps.proofs.onto.Tie as tie
 
 abbrev Inv-loop : tie.InvT-loop
 Inv-loop i j a r₀ y₀ r y = (j ≤ y) × ((y ≤ 16) × ((length r ≡ 16) × Filled (ored r₀ a i j) (was r₀) j y r))

@@ -7,8 +7,8 @@ use Prim.Native.Nat.{ℕ, _≤_, _+_, _-_}
 use Rattle.rows.specs.Leaves.{SumTo}
 use Rattle.rows.proofs.Known.{rows16}
 use Rattle.rows.proofs.Sums.{sum-none, sum-more, sum-skip, sum-done}
-use Rattle.row_steps.proofs.sum_of.Statement.{statement}
-use Rattle.row_steps.proofs.sum_of.Tie as tie
+use Rattle.row_sum_steps.proofs.sum_of.Statement.{statement}
+use Rattle.row_sum_steps.proofs.sum_of.Tie as tie
 
 abbrev Inv-loop : tie.InvT-loop
 Inv-loop a b r₀ j₀ r j = (j ≤ 16) × SumTo a b j r

@@ -2,8 +2,8 @@
 use borrow.Author.Needs.{needs}
 use Rattle.rows.proofs.Known.{rows16}
 use Rattle.rows.proofs.Joins.{onto-joined}
-use Rattle.row_steps.proofs.joined.Statement.{statement}
-use Rattle.row_steps.proofs.joined.Tie as tie
+use Rattle.row_sum_steps.proofs.joined.Statement.{statement}
+use Rattle.row_sum_steps.proofs.joined.Tie as tie
 
 onto-requires : tie.Need-onto-requires
 onto-requires c κs = search needs

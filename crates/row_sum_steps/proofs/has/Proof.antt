@@ -1,8 +1,8 @@
 -- Bit i is the last bit of a shifted by i.
 use borrow.Author.Tests.{eqb-true, eqb-false}
 use borrow.Author.Needs.{needs}
-use Rattle.row_steps.proofs.has.Statement.{statement}
-use Rattle.row_steps.proofs.has.Tie as tie
+use Rattle.row_sum_steps.proofs.has.Statement.{statement}
+use Rattle.row_sum_steps.proofs.has.Tie as tie
 
 cast-result : tie.Need-cast-result
 cast-result c = search needs

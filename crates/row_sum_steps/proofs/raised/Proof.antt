@@ -2,8 +2,8 @@
 use borrow.Author.Needs.{needs}
 use mathlib.Core.Logic.{inl, inr}
 use Rattle.rows.proofs.Joins.{onto-raised, raised-out}
-use Rattle.row_steps.proofs.raised.Statement.{statement}
-use Rattle.row_steps.proofs.raised.Tie as tie
+use Rattle.row_sum_steps.proofs.raised.Statement.{statement}
+use Rattle.row_sum_steps.proofs.raised.Tie as tie
 
 onto-requires : tie.Need-onto-requires
 onto-requires c κs = search needs

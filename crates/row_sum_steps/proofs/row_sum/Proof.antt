@@ -7,8 +7,8 @@ use mathlib.Core.List.{List}
 use Prim.Native.Nat.{ℕ, _≤_, _-_, _+_}
 use Rattle.rows.specs.Leaves.{RowSum}
 use Rattle.rows.proofs.Sums.{row-sum-none, row-sum-on, row-sum-off, row-sum-end}
-use Rattle.row_steps.proofs.row_sum.Statement.{statement}
-use Rattle.row_steps.proofs.row_sum.Tie as tie
+use Rattle.row_sum_steps.proofs.row_sum.Statement.{statement}
+use Rattle.row_sum_steps.proofs.row_sum.Tie as tie
 
 abbrev Inv-loop : tie.InvT-loop
 Inv-loop a b j r₀ i₀ r i = (i ≤ 16) × RowSum r₀ a b j i r

@@ -1,10 +1,11 @@
-// Grounds 1, 2 and 3 over the words of any list.
+// Grounds 1, 2 and 3 of document 01 over the words of any list: wrong_length, wrong_kind and extra_bit each say whether the ground holds.
+// What a word's kind is: specs/ of the crate words; what length a list may have: specs/ of the crate shapes. No point is built.
 ghost use mathlib.Core.Path.{_≡_};
 ghost use lib.ListN.{drop};
 ghost use Rattle.plane.specs.Lists.{any};
 ghost use Rattle.words.specs.Word.{wrongKind};
 ghost use Rattle.shapes.specs.Shape.{notWithin};
-ghost use Rattle.shape_grounds.specs.Leaves.{reaches};
+ghost use Rattle.word_grounds.specs.Leaves.{reaches};
 
 // Ground 1: whether a list has fewer than low words, or more than high.
 pub fn wrong_length(ws: &[u32], low: usize, high: usize) -> bool
