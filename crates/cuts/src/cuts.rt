@@ -38,20 +38,20 @@ fn line(row: &[u8], d: &mut [u8], a: usize, outside: u8)
 }
 
 // One row from the source's row t − 15, or from above or below the source.
-fn across(src: &[u8], d: &mut [u8], v: usize, u: usize, a: usize, t: usize, outside: u8)
-    requires { ⌜ (v * u ≤ length (now src)) × (v ≤ 65535) × (u ≤ 65535) × (a ≤ 65535) ⌝ }
-    ensures { λ _. ⌜ Ranged 0 0 (length (now (d .entry))) (λ x. seen outside v u (now (src .entry)) (x + a) t) (now (d .entry)) (now (d .exit)) ⌝ }
+fn across(src: &[u8], d: &mut [u8], columns: usize, rows: usize, a: usize, t: usize, outside: u8)
+    requires { ⌜ (columns * rows ≤ length (now src)) × (columns ≤ 65535) × (rows ≤ 65535) × (a ≤ 65535) ⌝ }
+    ensures { λ _. ⌜ Ranged 0 0 (length (now (d .entry))) (λ x. seen outside columns rows (now (src .entry)) (x + a) t) (now (d .entry)) (now (d .exit)) ⌝ }
 {
     if t < 15 {
         ranges::fill(d, outside);
         return;
     }
-    if u <= t - 15 {
+    if rows <= t - 15 {
         ranges::fill(d, outside);
         return;
     }
-    let q = (t - 15) * v;
-    line(&src[q..q + v], d, a, outside);
+    let q = (t - 15) * columns;
+    line(&src[q..q + columns], d, a, outside);
 }
 
 // The first h rows, the first first.
@@ -60,19 +60,20 @@ fn upper(
     dst: &mut [u8],
     w: usize,
     h: usize,
-    v: usize,
-    u: usize,
+    columns: usize,
+    rows: usize,
     a: usize,
     b: usize,
     outside: u8,
 )
-    requires { ⌜ (v * u ≤ length (now src)) × (w * h ≤ length (now dst)) × (w ≤ 65535) × (h ≤ 65535) × (v ≤ 65535) × (u ≤ 65535) × (a ≤ 65535) × (b ≤ 65535) ⌝ }
-    ensures { λ _. ⌜ Laid (λ x y. seen outside v u (now (src .entry)) (x + a) (y + b)) w h (now (dst .entry)) (now (dst .exit)) ⌝ }
+    requires { ⌜ (columns * rows ≤ length (now src)) × (w * h ≤ length (now dst)) ×
+        (w ≤ 65535) × (h ≤ 65535) × (columns ≤ 65535) × (rows ≤ 65535) × (a ≤ 65535) × (b ≤ 65535) ⌝ }
+    ensures { λ _. ⌜ Laid (λ x y. seen outside columns rows (now (src .entry)) (x + a) (y + b)) w h (now (dst .entry)) (now (dst .exit)) ⌝ }
 {
     let mut p: usize = 0;
     let mut y: usize = 0;
     while y < h {
-        across(src, &mut dst[p..p + w], v, u, a, y + b, outside);
+        across(src, &mut dst[p..p + w], columns, rows, a, y + b, outside);
         p += w;
         y += 1;
     }
@@ -85,38 +86,39 @@ fn down(
     dst: &mut [u8],
     w: usize,
     h: usize,
-    v: usize,
-    u: usize,
+    columns: usize,
+    rows: usize,
     a: usize,
     b: usize,
     outside: u8,
 )
-    requires { ⌜ (v * u ≤ length (now src)) × (w * h ≤ length (now dst)) × (w ≤ 65535) × (h ≤ 65535) × (v ≤ 65535) × (u ≤ 65535) × (a ≤ 65535) × (b ≤ 65535) ⌝ }
-    ensures { λ _. ⌜ now (dst .exit) ≡ overFront (w * h) (cutOut outside w h v u a b (now (src .entry))) (now (dst .entry)) ⌝ }
+    requires { ⌜ (columns * rows ≤ length (now src)) × (w * h ≤ length (now dst)) ×
+        (w ≤ 65535) × (h ≤ 65535) × (columns ≤ 65535) × (rows ≤ 65535) × (a ≤ 65535) × (b ≤ 65535) ⌝ }
+    ensures { λ _. ⌜ now (dst .exit) ≡ overFront (w * h) (cutOut outside w h columns rows a b (now (src .entry))) (now (dst .entry)) ⌝ }
 {
-    let n = edge(h, b, u + 15);
-    upper(src, dst, w, n, v, u, a, b, outside);
+    let n = edge(h, b, rows + 15);
+    upper(src, dst, w, n, columns, rows, a, b, outside);
     ranges::fill(&mut dst[n * w..h * w], outside);
 }
 
-// Cuts w columns and h rows out of the v columns and u rows in src, into dst: cell (x, y) becomes the source's (x + a − 15, y + b − 15), and outside where
-// the source has no such cell. False, with nothing written, where sizes do not fit.
+// Cuts w columns and h rows out of src, which has columns and rows of its own, into dst: cell (x, y) becomes the source's (x + a − 15, y + b − 15), and
+// outside where the source has no such cell. False, with nothing written, where sizes do not fit.
 pub fn cut(
     src: &[u8],
     dst: &mut [u8],
     w: usize,
     h: usize,
-    v: usize,
-    u: usize,
+    columns: usize,
+    rows: usize,
     a: usize,
     b: usize,
     outside: u8,
 ) -> bool
-    ensures { λ r. ⌜ Cut outside w h v u a b (now (src .entry)) (now (dst .entry)) r (now (dst .exit)) ⌝ }
+    ensures { λ r. ⌜ Cut outside w h columns rows a b (now (src .entry)) (now (dst .entry)) r (now (dst .exit)) ⌝ }
 {
-    if !sizes::cut_fits(w, h, v, u, a, b, src.len(), dst.len()) {
+    if !sizes::cut_fits(w, h, columns, rows, a, b, src.len(), dst.len()) {
         return false;
     }
-    down(src, dst, w, h, v, u, a, b, outside);
+    down(src, dst, w, h, columns, rows, a, b, outside);
     true
 }

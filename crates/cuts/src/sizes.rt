@@ -3,8 +3,8 @@ ghost use mathlib.Core.Path.{_≡_};
 ghost use Rattle.cuts.specs.Cuts.{sidesFit, cutFits};
 
 // Whether columns, rows and distances are ones that a cut is made for.
-pub fn sides_fit(w: usize, h: usize, v: usize, u: usize, a: usize, b: usize) -> bool
-    ensures { λ r. ⌜ r ≡ sidesFit w h v u a b ⌝ }
+pub fn sides_fit(w: usize, h: usize, columns: usize, rows: usize, a: usize, b: usize) -> bool
+    ensures { λ r. ⌜ r ≡ sidesFit w h columns rows a b ⌝ }
 {
     if 65535 < w {
         return false;
@@ -12,10 +12,10 @@ pub fn sides_fit(w: usize, h: usize, v: usize, u: usize, a: usize, b: usize) -> 
     if 65535 < h {
         return false;
     }
-    if 65535 < v {
+    if 65535 < columns {
         return false;
     }
-    if 65535 < u {
+    if 65535 < rows {
         return false;
     }
     if 65535 < a {
@@ -24,23 +24,23 @@ pub fn sides_fit(w: usize, h: usize, v: usize, u: usize, a: usize, b: usize) -> 
     b <= 65535
 }
 
-// Whether w columns and h rows in k bytes are cut out of v columns and u rows in n bytes, at the distances a and b.
+// Whether w columns and h rows in k bytes are cut out of the columns and rows of a source in n bytes, at the distances a and b.
 pub(crate) fn cut_fits(
     w: usize,
     h: usize,
-    v: usize,
-    u: usize,
+    columns: usize,
+    rows: usize,
     a: usize,
     b: usize,
     n: usize,
     k: usize,
 ) -> bool
-    ensures { λ r. ⌜ r ≡ cutFits w h v u a b n k ⌝ }
+    ensures { λ r. ⌜ r ≡ cutFits w h columns rows a b n k ⌝ }
 {
-    if !sides_fit(w, h, v, u, a, b) {
+    if !sides_fit(w, h, columns, rows, a, b) {
         return false;
     }
-    if n < v * u {
+    if n < columns * rows {
         return false;
     }
     w * h <= k

@@ -77,12 +77,13 @@ fn lay(d: &mut [u8], s: &[u8], j: usize)
     }
 }
 
-// Fewer than eight rows, one by one, with the bits of v above them. The first goes first: a loop that went down the rows would not be done many bytes at a time.
-fn few(d: &mut [u8], s: &[u8], w: usize, r: usize, v: u8)
+// Fewer than eight rows, one by one, with the bits of outside above them. The first goes first: a loop that went down the rows would not be done many bytes
+// at a time.
+fn few(d: &mut [u8], s: &[u8], w: usize, r: usize, outside: u8)
     requires { ⌜ (length (now d) ≤ w) × (r < 8) × (r * w ≤ length (now s)) ⌝ }
-    ensures { λ _. ⌜ Bitted 0 (length (now (d .entry))) (groupBit (now (s .entry)) w r v) (now (d .entry)) (now (d .exit)) ⌝ }
+    ensures { λ _. ⌜ Bitted 0 (length (now (d .entry))) (groupBit (now (s .entry)) w r outside) (now (d .entry)) (now (d .exit)) ⌝ }
 {
-    ranges::fill(d, v << r);
+    ranges::fill(d, outside << r);
     let mut j: usize = 0;
     while j < r {
         lay(d, &s[j * w..j * w + w], j);
@@ -91,15 +92,15 @@ fn few(d: &mut [u8], s: &[u8], w: usize, r: usize, v: u8)
 }
 
 // Up to eight rows: in one pass where there are eight.
-fn group(d: &mut [u8], s: &[u8], w: usize, r: usize, v: u8)
+fn group(d: &mut [u8], s: &[u8], w: usize, r: usize, outside: u8)
     requires { ⌜ (length (now d) ≤ w) × (r ≤ 8) × (r * w ≤ length (now s)) ⌝ }
-    ensures { λ _. ⌜ Bitted 0 (length (now (d .entry))) (groupBit (now (s .entry)) w r v) (now (d .entry)) (now (d .exit)) ⌝ }
+    ensures { λ _. ⌜ Bitted 0 (length (now (d .entry))) (groupBit (now (s .entry)) w r outside) (now (d .entry)) (now (d .exit)) ⌝ }
 {
     if r == 8 {
         halves(d, s, w);
         return;
     }
-    few(d, s, w, r, v);
+    few(d, s, w, r, outside);
 }
 
 // How many rows a group has of which a rows are left.
@@ -112,11 +113,11 @@ fn rows(a: usize) -> usize
     8
 }
 
-// The next group, of which a rows are left: cells of f from q on, into the bytes of dst from p on, with the bits of v above them.
-pub(crate) fn next(f: &[u8], dst: &mut [u8], w: usize, a: usize, p: usize, q: usize, v: u8)
+// The next group, of which a rows are left: cells of f from q on, into the bytes of dst from p on, with the bits of outside above them.
+pub(crate) fn next(f: &[u8], dst: &mut [u8], w: usize, a: usize, p: usize, q: usize, outside: u8)
     requires { ⌜ (p + w ≤ length (now dst)) × (q + min a 8 * w ≤ length (now f)) ⌝ }
-    ensures { λ _. ⌜ GroupPut w a p q v (now (f .entry)) (now (dst .entry)) (now (dst .exit)) ⌝ }
+    ensures { λ _. ⌜ GroupPut w a p q outside (now (f .entry)) (now (dst .entry)) (now (dst .exit)) ⌝ }
 {
     let r = rows(a);
-    group(&mut dst[p..p + w], &f[q..q + r * w], w, r, v);
+    group(&mut dst[p..p + w], &f[q..q + r * w], w, r, outside);
 }

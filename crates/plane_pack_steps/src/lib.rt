@@ -44,8 +44,8 @@ fn fill(f: &[u8], dst: &mut [u8], w: usize, h: usize, gw: usize, gh: usize, outs
     }
 }
 
-// Packs the frame of w columns and h rows in f into the plane of gw columns and gh rows in dst, with its cell (0, 0) at that of the plane, and the value outside
-// around it. False, with nothing written, where sizes do not fit, or the value outside is neither 0 nor 1.
+// Packs the frame of w columns and h rows in f into the plane of gw columns and gh rows in dst, with its cell (0, 0) at that of the plane, and the value
+// outside around it. False, with nothing written, where sizes do not fit, or the value outside is neither 0 nor 1.
 pub fn pack(f: &[u8], dst: &mut [u8], w: usize, h: usize, gw: usize, gh: usize, outside: u8) -> bool
     ensures { λ r. ⌜ Packed outside w h gw gh (now (f .entry)) (now (dst .entry)) r (now (dst .exit)) ⌝ }
 {

@@ -11,13 +11,13 @@ fn lesser(a: usize, b: usize) -> usize
     if a < b { a } else { b }
 }
 
-// Each cell of d becomes v.
-pub fn fill(d: &mut [u8], v: u8)
-    ensures { λ _. ⌜ Ranged 0 0 (length (now (d .entry))) (λ _. v) (now (d .entry)) (now (d .exit)) ⌝ }
+// Each cell of d becomes value.
+pub fn fill(d: &mut [u8], value: u8)
+    ensures { λ _. ⌜ Ranged 0 0 (length (now (d .entry))) (λ _. value) (now (d .entry)) (now (d .exit)) ⌝ }
 {
     let mut k = 0;
     while k < d.len() {
-        d[k] = v;
+        d[k] = value;
         k += 1;
     }
 }

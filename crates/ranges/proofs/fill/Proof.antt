@@ -10,10 +10,10 @@ use Rattle.ranges.proofs.fill.Statement.{statement}
 use Rattle.ranges.proofs.fill.Tie as tie
 
 abbrev Inv-loop : tie.InvT-loop
-Inv-loop d₀ v k₀ d k = (k ≤ length d₀) × Ranged 0 0 k (λ _. v) d₀ d
+Inv-loop d₀ value k₀ d k = (k ≤ length d₀) × Ranged 0 0 k (λ _. value) d₀ d
 
 abbrev μ-loop : tie.MeasureT-loop
-μ-loop d₀ v k₀ d k = length d₀ - k
+μ-loop d₀ value k₀ d k = length d₀ - k
 
 loop-holds : tie.Need-loop-holds Inv-loop μ-loop
 loop-holds c = (omega arith, ranged-none 0 _ _)

@@ -14,14 +14,14 @@ cut-fits-requires c κs = search needs
 returns : tie.Need-returns
 returns c =
     let a = c .before .before .before .before .args in
-    was-kept (cutFits (a .w) (a .h) (a .v) (a .u) (a .a) (a .b) (length (a .src .now)) (length (a .dst .now))) (a .dst .now)
+    was-kept (cutFits (a .w) (a .h) (a .columns) (a .rows) (a .a) (a .b) (length (a .src .now)) (length (a .dst .now))) (a .dst .now)
     (test-fails (c .before .cut-fits .ensures) (c .if1 .taken))
 
 down-requires : tie.Need-down-requires
 down-requires c κs =
     let a = c .before .before .before .before .before .args in
     let e = test-holds (c .before .before .cut-fits .ensures) (c .before .if1 .left) in
-    let s = cut-says (a .w) (a .h) (a .v) (a .u) (a .a) (a .b) (length (a .src .now)) (length (a .dst .now)) e in
+    let s = cut-says (a .w) (a .h) (a .columns) (a .rows) (a .a) (a .b) (length (a .src .now)) (length (a .dst .now)) e in
     omega arith
 
 same-length : tie.Need-same-length
@@ -30,7 +30,7 @@ same-length c = search needs
 returns-2 : tie.Need-returns-2
 returns-2 c =
     let a = c .before .before .before .before .before .before .before .before .args in
-    was-done (cutFits (a .w) (a .h) (a .v) (a .u) (a .a) (a .b) (length (a .src .now)) (length (a .dst .now))) (a .dst .now)
+    was-done (cutFits (a .w) (a .h) (a .columns) (a .rows) (a .a) (a .b) (length (a .src .now)) (length (a .dst .now))) (a .dst .now)
     (test-holds (c .before .before .before .before .before .cut-fits .ensures) (c .before .before .before .before .if1 .left)) (c .before .before .down .ensures)
 
 pub cut-spec : {M : Type 1} → statement M

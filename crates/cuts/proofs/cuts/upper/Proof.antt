@@ -13,10 +13,10 @@ use Rattle.cuts.proofs.cuts.upper.Statement.{statement}
 use Rattle.cuts.proofs.cuts.upper.Tie as tie
 
 abbrev Inv-loop : tie.InvT-loop
-Inv-loop src dst₀ w h v u a b outside p₀ y₀ dst p y = (y ≤ h) × (p ≡ y * w) × Laid (λ x z. seen outside v u src (x + a) (z + b)) w y dst₀ dst
+Inv-loop src dst₀ w h columns rows a b outside p₀ y₀ dst p y = (y ≤ h) × (p ≡ y * w) × Laid (λ x z. seen outside columns rows src (x + a) (z + b)) w y dst₀ dst
 
 abbrev μ-loop : tie.MeasureT-loop
-μ-loop src dst₀ w h v u a b outside p₀ y₀ dst p y = h - y
+μ-loop src dst₀ w h columns rows a b outside p₀ y₀ dst p y = h - y
 
 loop-holds : tie.Need-loop-holds Inv-loop μ-loop
 loop-holds c = (omega arith, omega arith, laid-none _)

@@ -16,26 +16,26 @@ sides-fit-requires c κs = search needs
 returns : tie.Need-returns
 returns c =
     let a = c .before .before .args in
-    first-fails (sidesFit (a .w) (a .h) (a .v) (a .u) (a .a) (a .b)) (leb (a .v * a .u) (a .n)) (leb (a .w * a .h) (a .k))
+    first-fails (sidesFit (a .w) (a .h) (a .columns) (a .rows) (a .a) (a .b)) (leb (a .columns * a .rows) (a .n)) (leb (a .w * a .h) (a .k))
     (test-fails (c .before .sides-fit .ensures) (c .if1 .taken))
 
 mul-if2 : tie.Need-mul-if2
 mul-if2 c =
     let a = c .before .before .args in
-    let s = sides-say (a .w) (a .h) (a .v) (a .u) (a .a) (a .b) (test-holds (c .before .sides-fit .ensures) (c .if1 .left)) in
-    omega (arith, product-le (a .v) (a .u) (s .2) (s .3))
+    let s = sides-say (a .w) (a .h) (a .columns) (a .rows) (a .a) (a .b) (test-holds (c .before .sides-fit .ensures) (c .if1 .left)) in
+    omega (arith, product-le (a .columns) (a .rows) (s .2) (s .3))
 
 returns-2 : tie.Need-returns-2
 returns-2 c =
     let a = c .before .before .before .args in
-    second-fails (sidesFit (a .w) (a .h) (a .v) (a .u) (a .a) (a .b)) (leb (a .v * a .u) (a .n)) (leb (a .w * a .h) (a .k))
+    second-fails (sidesFit (a .w) (a .h) (a .columns) (a .rows) (a .a) (a .b)) (leb (a .columns * a .rows) (a .n)) (leb (a .w * a .h) (a .k))
     (test-holds (c .before .before .sides-fit .ensures) (c .before .if1 .left))
-    (lt-leb (a .v * a .u) (a .n) (omega arith))
+    (lt-leb (a .columns * a .rows) (a .n) (omega arith))
 
 mul-result : tie.Need-mul-result
 mul-result c =
     let a = c .before .before .before .args in
-    let s = sides-say (a .w) (a .h) (a .v) (a .u) (a .a) (a .b) (test-holds (c .before .before .sides-fit .ensures) (c .before .if1 .left)) in
+    let s = sides-say (a .w) (a .h) (a .columns) (a .rows) (a .a) (a .b) (test-holds (c .before .before .sides-fit .ensures) (c .before .if1 .left)) in
     omega (arith, product-le (a .w) (a .h) (s .0) (s .1))
 
 returns-3 : tie.Need-returns-3
@@ -43,7 +43,7 @@ returns-3 c =
     let a = c .before .before .before .args in
     third (leb (a .w * a .h) (a .k))
     (test-holds (c .before .before .sides-fit .ensures) (c .before .if1 .left))
-    (le-leb (a .v * a .u) (a .n) (omega arith))
+    (le-leb (a .columns * a .rows) (a .n) (omega arith))
 
 pub cut-fits-spec : {M : Type 1} → statement M
 cut-fits-spec =

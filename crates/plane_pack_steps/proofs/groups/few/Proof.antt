@@ -12,10 +12,10 @@ use Rattle.plane_pack_steps.proofs.groups.few.Statement.{statement}
 use Rattle.plane_pack_steps.proofs.groups.few.Tie as tie
 
 abbrev Inv-loop : tie.InvT-loop
-Inv-loop d₀ s w r v j₀ d j = (j ≤ r) × Bitted 0 (length d₀) (fewBit s w r v j) d₀ d
+Inv-loop d₀ s w r outside j₀ d j = (j ≤ r) × Bitted 0 (length d₀) (fewBit s w r outside j) d₀ d
 
 abbrev μ-loop : tie.MeasureT-loop
-μ-loop d₀ s w r v j₀ d j = r - j
+μ-loop d₀ s w r outside j₀ d j = r - j
 
 cast-fill : tie.Need-cast-fill Inv-loop μ-loop
 cast-fill c = search needs
@@ -27,7 +27,7 @@ fill-requires : tie.Need-fill-requires Inv-loop μ-loop
 fill-requires c κs = search needs
 
 loop-holds : tie.Need-loop-holds Inv-loop μ-loop
-loop-holds c = let a = c .before .before .before .before .before .before .args in (omega arith, few-none (a .s .now) (a .w) (a .r) (a .v) (c .before .before .fill .ensures))
+loop-holds c = let a = c .before .before .before .before .before .before .args in (omega arith, few-none (a .s .now) (a .w) (a .r) (a .outside) (c .before .before .fill .ensures))
 
 mul-lay : tie.Need-mul-lay Inv-loop μ-loop
 mul-lay c = let a = c .before .before .before .before .before .before .before .before .before .args in omega (arith, rows-apart (a .w) (c .before .before .loop .j) (a .r) (omega arith))
@@ -65,7 +65,7 @@ loop-again : tie.Need-loop-again Inv-loop μ-loop
 loop-again c =
     let a = c .before .before .before .before .before .before .before .before .before .before .before .before .before .args in
     let l = c .before .before .before .before .before .before .loop in
-    (omega arith, few-more (a .s .now) (a .w) (a .r) (a .v) (l .j) (omega arith) (omega arith) (omega arith) (omega (arith, c .before .before .before .before .before .before .before .before .before .fill .ensures .len)) (l .inv .1) (c .before .before .lay .ensures))
+    (omega arith, few-more (a .s .now) (a .w) (a .r) (a .outside) (l .j) (omega arith) (omega arith) (omega arith) (omega (arith, c .before .before .before .before .before .before .before .before .before .fill .ensures .len)) (l .inv .1) (c .before .before .lay .ensures))
 
 same-length : tie.Need-same-length Inv-loop μ-loop
 same-length c = search needs
@@ -74,7 +74,7 @@ returns : tie.Need-returns Inv-loop μ-loop
 returns c =
     let a = c .before .before .before .before .before .before .before .before .args in
     let e : c .before .loop .j ≡ a .r = omega arith in
-    few-all (a .s .now) (a .w) (a .r) (a .v) (c .before .before .before .before .fill .ensures) (rw e at (c .before .loop .inv .1))
+    few-all (a .s .now) (a .w) (a .r) (a .outside) (c .before .before .before .before .fill .ensures) (rw e at (c .before .loop .inv .1))
 
 pub few-spec : {M : Type 1} → statement M
 few-spec =

@@ -62,7 +62,7 @@ returns c =
     let f = ranged-part {a = 0} {e = a .s + 2} {xs = a .d .now} (omega arith) (omega arith) (c .before .before .before .before .before .before .before .before .before .before .before .fill .ensures) in
     let g = ranged-part {a = e + a .s} {e = e + 2 * a .s + 2} (omega arith) (omega (arith, f .len)) (c .before .before .before .before .before .before .before .fill2 .ensures) in
     let p = c .before .before .before .pads .ensures in
-    rw (c .if1 .taken) (bounded (a .s) (a .n) 8 (a .v) (omega arith) (omega arith) f g p (trimmed-none (a .v) (e + 2) (e + a .s) _))
+    rw (c .if1 .taken) (bounded (a .s) (a .n) 8 (a .outside) (omega arith) (omega arith) f g p (trimmed-none (a .outside) (e + 2) (e + a .s) _))
 
 add-trim : tie.Need-add-trim
 add-trim c = search needs
@@ -92,7 +92,7 @@ returns-2 c =
     let f = ranged-part {a = 0} {e = a .s + 2} {xs = a .d .now} (omega arith) (omega arith) (c .before .before .before .before .before .before .before .before .before .before .before .before .before .before .before .fill .ensures) in
     let g = ranged-part {a = e + a .s} {e = e + 2 * a .s + 2} (omega arith) (omega (arith, f .len)) (c .before .before .before .before .before .before .before .before .before .before .before .fill2 .ensures) in
     let p = c .before .before .before .before .before .before .before .pads .ensures in
-    bounded (a .s) (a .n) (a .r) (a .v) (omega arith) (omega arith) f g p (trimmed-part (a .r) (a .v) (omega arith) (omega (arith, p .len, g .len, f .len)) (c .before .before .trim .ensures))
+    bounded (a .s) (a .n) (a .r) (a .outside) (omega arith) (omega arith) f g p (trimmed-part (a .r) (a .outside) (omega arith) (omega (arith, p .len, g .len, f .len)) (c .before .before .trim .ensures))
 
 pub bound-spec : {M : Type 1} → statement M
 bound-spec =

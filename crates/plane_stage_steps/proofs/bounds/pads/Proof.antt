@@ -12,10 +12,10 @@ use Rattle.plane_stage_steps.proofs.bounds.pads.Statement.{statement}
 use Rattle.plane_stage_steps.proofs.bounds.pads.Tie as tie
 
 abbrev Inv-loop : tie.InvT-loop
-Inv-loop d₀ s n v p₀ r₀ d p r = (r ≤ n) × (p ≡ r * s) × Padded s r v d₀ d
+Inv-loop d₀ s n outside p₀ r₀ d p r = (r ≤ n) × (p ≡ r * s) × Padded s r outside d₀ d
 
 abbrev μ-loop : tie.MeasureT-loop
-μ-loop d₀ s n v p₀ r₀ d p r = n - r
+μ-loop d₀ s n outside p₀ r₀ d p r = n - r
 
 loop-holds : tie.Need-loop-holds Inv-loop μ-loop
 loop-holds c = (omega arith, omega arith, padded-none _ _ _)
@@ -30,7 +30,7 @@ add-d : tie.Need-add-d Inv-loop μ-loop
 add-d c = let a = c .before .before .args in omega (arith, rows-apart (a .s) (c .before .loop .r) (a .n) (omega arith), c .before .loop .inv .2 .len)
 
 slice-write-d-2 : tie.Need-slice-write-d-2 Inv-loop μ-loop
-slice-write-d-2 c = let a = c .before .before .args in omega (arith, length-set (c .before .loop .d) (c .before .loop .p + a .s) (a .v), rows-apart (a .s) (c .before .loop .r) (a .n) (omega arith), c .before .loop .inv .2 .len)
+slice-write-d-2 c = let a = c .before .before .args in omega (arith, length-set (c .before .loop .d) (c .before .loop .p + a .s) (a .outside), rows-apart (a .s) (c .before .loop .r) (a .n) (omega arith), c .before .loop .inv .2 .len)
 
 add-r : tie.Need-add-r Inv-loop μ-loop
 add-r c = search needs

@@ -13,10 +13,10 @@ use Rattle.plane_stage_steps.proofs.bounds.trim.Statement.{statement}
 use Rattle.plane_stage_steps.proofs.bounds.trim.Tie as tie
 
 abbrev Inv-loop : tie.InvT-loop
-Inv-loop d₀ r v k₀ d k = (k ≤ length d₀) × Bitted 0 k (λ k q. cond (ltb q r) (bit (getD d₀ k 0) q) (bit v q)) d₀ d
+Inv-loop d₀ r outside k₀ d k = (k ≤ length d₀) × Bitted 0 k (λ k q. cond (ltb q r) (bit (getD d₀ k 0) q) (bit outside q)) d₀ d
 
 abbrev μ-loop : tie.MeasureT-loop
-μ-loop d₀ r v k₀ d k = length d₀ - k
+μ-loop d₀ r outside k₀ d k = length d₀ - k
 
 loop-holds : tie.Need-loop-holds Inv-loop μ-loop
 loop-holds c = (omega arith, bitted-none _ _)
@@ -42,7 +42,7 @@ loop-again c =
     let a = c .before .before .before .before .before .args in (
       omega arith,
       bitted-more (c .trimmed .result) (l .inv .1) (omega arith)
-          (λ q lq. c .trimmed .ensures q lq ∙ ap (λ (n : ℕ). cond (ltb q (a .r)) (bit n q) (bit (a .v) q)) (l .inv .1 .above (l .k) (omega arith))),
+          (λ q lq. c .trimmed .ensures q lq ∙ ap (λ (n : ℕ). cond (ltb q (a .r)) (bit n q) (bit (a .outside) q)) (l .inv .1 .above (l .k) (omega arith))),
     )
 
 same-length : tie.Need-same-length Inv-loop μ-loop

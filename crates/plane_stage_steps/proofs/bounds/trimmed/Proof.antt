@@ -21,7 +21,7 @@ shl-result : tie.Need-shl-result
 shl-result c = search needs
 
 returns : tie.Need-returns
-returns c q l = let a = c .args in trimmed-bit (a .a) (a .r) (a .v) q (omega arith) (omega arith) l
+returns c q l = let a = c .args in trimmed-bit (a .a) (a .r) (a .outside) q (omega arith) (omega arith) l
 
 pub trimmed-spec : {M : Type 1} → statement M
 trimmed-spec =
