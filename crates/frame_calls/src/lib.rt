@@ -28,7 +28,7 @@ pub fn put(w: usize, h: usize, frame: &[u8], image: &mut [u8]) -> Answer
     if let Answer::Refused(ground) = tested {
         return Answer::Refused(ground);
     }
-    cuts::cut(frame, image, w + 15, h + 15, w, h, 15, 15, 0);
+    cut_steps::cut(frame, image, w + 15, h + 15, w, h, 15, 15, 0);
     Answer::Done(0)
 }
 

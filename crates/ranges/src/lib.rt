@@ -1,4 +1,4 @@
-// Runs of bytes: a part of an image filled with one value, or with the cells of another.
+// Ranges of bytes: a part of an image filled with one value, or with the cells of another.
 ghost use mathlib.Core.Path.{_≡_};
 ghost use Prim.Native.Nat.{min};
 ghost use lib.ListN.{length, getD};

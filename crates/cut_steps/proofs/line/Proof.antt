@@ -5,9 +5,9 @@ use mathlib.Core.Path.{sym}
 use Prim.Native.Nat.{_+_, _-_}
 use lib.ListN.{length, getD}
 use Rattle.ranges.proofs.Ranges.{ranged-ap, ranged-part, ranged-copy}
 use Rattle.cuts.proofs.CutRows.{between, none-seen, line-is}
-use Rattle.cuts.proofs.cuts.line.Statement.{statement}
-use Rattle.cuts.proofs.cuts.line.Tie as tie
+use Rattle.cut_steps.proofs.line.Statement.{statement}
+use Rattle.cut_steps.proofs.line.Tie as tie
 
 edge-requires : tie.Need-edge-requires
 edge-requires c κs = search needs

@@ -1,12 +1,12 @@
 -- Where the test on sizes fails nothing is written; where it holds, what down writes is the whole promise.
 use native.Mathlib.Omega.{arith}
 use lib.ListN.{length}
 use Rattle.cuts.specs.Cuts.{cutFits}
 use Rattle.ranges.proofs.Sizing.{was-kept, was-done, test-fails, test-holds}
 use Rattle.cuts.proofs.Sizing.{cut-says}
 use borrow.Author.Needs.{needs}
-use Rattle.cuts.proofs.cuts.cut.Statement.{statement}
-use Rattle.cuts.proofs.cuts.cut.Tie as tie
+use Rattle.cut_steps.proofs.cut.Statement.{statement}
+use Rattle.cut_steps.proofs.cut.Tie as tie
 
 cut-fits-requires : tie.Need-cut-fits-requires
 cut-fits-requires c κs = search needs

@@ -2,8 +2,8 @@
 use native.Mathlib.Omega.{arith}
 use borrow.Author.Tests.{le-leb, lt-leb}
 use Rattle.ranges.proofs.Sizing.{sixth}
-use Rattle.cuts.proofs.sizes.sides_fit.Statement.{statement}
-use Rattle.cuts.proofs.sizes.sides_fit.Tie as tie
+use Rattle.cuts.proofs.sides_fit.Statement.{statement}
+use Rattle.cuts.proofs.sides_fit.Tie as tie
 
 returns : tie.Need-returns
 returns c = let a = c .before .args in simp (lt-leb (a .w) 65535 (omega arith))

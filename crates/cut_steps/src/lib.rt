@@ -1,23 +1,10 @@
-// Columns and rows cut out of a source, row by row; a row is at most three runs. Cell x of a row is the source's x + a − 15, and so for rows with b.
-use super::sizes;
+// Columns and rows cut out of a source at a distance, on flat slices of bytes: cut. It goes row by row, and a row is at most three ranges. The value of cells that the
+// source does not have is the caller's. Cell x of a row is the source's x + a − 15, and so for rows with b.
 ghost use mathlib.Core.Path.{_≡_};
 ghost use Prim.Native.Nat.{_+_, _*_, _≤_};
 ghost use lib.ListN.{length, getD};
 ghost use Rattle.ranges.specs.Ranges.{overFront, Laid, Ranged};
-ghost use Rattle.cuts.specs.Cuts.{cutOut, Cut, Edge, shifted, seen};
-
-// How many of the first w cells stand before n when a is added to their numbers.
-pub fn edge(w: usize, a: usize, n: usize) -> usize
-    ensures { λ r. ⌜ Edge w a n r ⌝ }
-{
-    if n <= a {
-        return 0;
-    }
-    if w < n - a {
-        return w;
-    }
-    n - a
-}
+ghost use Rattle.cuts.specs.Cuts.{cutOut, Cut, shifted, seen};
 
 // One row from a row of the source: the cells left of that row, those of it, and those right of it.
 fn line(row: &[u8], d: &mut [u8], a: usize, outside: u8)
@@ -26,8 +13,8 @@ fn line(row: &[u8], d: &mut [u8], a: usize, outside: u8)
 {
     let n = d.len();
     let m = row.len();
-    let p = edge(n, a, 15);
-    let e = edge(n, a, m + 15);
+    let p = cuts::edge(n, a, 15);
+    let e = cuts::edge(n, a, m + 15);
     if e <= p {
         ranges::fill(d, outside);
         return;
@@ -96,7 +83,7 @@ fn down(
         (w ≤ 65535) × (h ≤ 65535) × (columns ≤ 65535) × (rows ≤ 65535) × (a ≤ 65535) × (b ≤ 65535) ⌝ }
     ensures { λ _. ⌜ now (dst .exit) ≡ overFront (w * h) (cutOut outside w h columns rows a b (now (src .entry))) (now (dst .entry)) ⌝ }
 {
-    let n = edge(h, b, rows + 15);
+    let n = cuts::edge(h, b, rows + 15);
     upper(src, dst, w, n, columns, rows, a, b, outside);
     ranges::fill(&mut dst[n * w..h * w], outside);
 }
@@ -116,7 +103,7 @@ pub fn cut(
 ) -> bool
     ensures { λ r. ⌜ Cut outside w h columns rows a b (now (src .entry)) (now (dst .entry)) r (now (dst .exit)) ⌝ }
 {
-    if !sizes::cut_fits(w, h, columns, rows, a, b, src.len(), dst.len()) {
+    if !cuts::cut_fits(w, h, columns, rows, a, b, src.len(), dst.len()) {
         return false;
     }
     down(src, dst, w, h, columns, rows, a, b, outside);

@@ -7,8 +7,8 @@ use native.Mathlib.Omega.{arith}
 use Rattle.ranges.proofs.Sizing.{product-le, first-fails, second-fails, third, test-fails, test-holds}
 use Rattle.cuts.specs.Cuts.{sidesFit}
 use Rattle.cuts.proofs.Sizing.{sides-say}
-use Rattle.cuts.proofs.sizes.cut_fits.Statement.{statement}
-use Rattle.cuts.proofs.sizes.cut_fits.Tie as tie
+use Rattle.cuts.proofs.cut_fits.Statement.{statement}
+use Rattle.cuts.proofs.cut_fits.Tie as tie
 
 sides-fit-requires : tie.Need-sides-fit-requires
 sides-fit-requires c κs = search needs

@@ -8,10 +8,10 @@ use lib.ListN.{length, getD}
 use borrow.Rule.Slice.PartMut.{midOf, mid-len}
 use Rattle.ranges.proofs.Ranges.{ranged-ap, getD-mid}
 use Rattle.ranges.proofs.FlatRows.{rows-apart}
 use Rattle.cuts.specs.Cuts.{shifted}
 use Rattle.cuts.proofs.CutRows.{seen-above, seen-under, seen-line}
-use Rattle.cuts.proofs.cuts.across.Statement.{statement}
-use Rattle.cuts.proofs.cuts.across.Tie as tie
+use Rattle.cut_steps.proofs.across.Statement.{statement}
+use Rattle.cut_steps.proofs.across.Tie as tie
 
 fill-requires : tie.Need-fill-requires
 fill-requires c κs = search needs

@@ -5,9 +5,9 @@ use mathlib.Core.Path.{refl}
 use Prim.Native.Nat.{_+_, _*_}
 use native.Mathlib.Nat.{mul-comm, mul-le-mul-right}
 use Rattle.ranges.proofs.Ranges.{ranged-part}
 use Rattle.cuts.proofs.CutRows.{edge-after, seen-under, laid-rest, cut-is}
-use Rattle.cuts.proofs.cuts.down.Statement.{statement}
-use Rattle.cuts.proofs.cuts.down.Tie as tie
+use Rattle.cut_steps.proofs.down.Statement.{statement}
+use Rattle.cut_steps.proofs.down.Tie as tie
 
 add-edge : tie.Need-add-edge
 add-edge c = search needs

@@ -7,10 +7,10 @@ use native.Mathlib.Nat.{add-mul, mul-comm}
 use Rattle.ranges.specs.Ranges.{Laid}
 use Rattle.ranges.proofs.Ranges.{ranged-part}
 use Rattle.ranges.proofs.FlatRows.{rows-apart}
 use Rattle.cuts.specs.Cuts.{seen}
 use Rattle.cuts.proofs.CutRows.{laid-none, laid-more}
-use Rattle.cuts.proofs.cuts.upper.Statement.{statement}
-use Rattle.cuts.proofs.cuts.upper.Tie as tie
+use Rattle.cut_steps.proofs.upper.Statement.{statement}
+use Rattle.cut_steps.proofs.upper.Tie as tie
 
 abbrev Inv-loop : tie.InvT-loop
 Inv-loop src dst₀ w h columns rows a b outside p₀ y₀ dst p y = (y ≤ h) × (p ≡ y * w) × Laid (λ x z. seen outside columns rows src (x + a) (z + b)) w y dst₀ dst
