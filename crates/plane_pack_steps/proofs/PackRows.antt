@@ -1,5 +1,5 @@
 -- A frame packed group by group: after the rows below y, the plane shows the frame in them, and the value outside in all others.
-use mathlib.Core.Path.{_≡_, sym, ap, _∙_}
+use mathlib.Core.Path.{_≡_, refl, sym, ap, _∙_}
 use mathlib.Core.Logic.{⊎-elim}
 use mathlib.Core.Bool.{Bool, cond}
 use mathlib.Core.List.{List}
@@ -17,7 +17,7 @@ use Rattle.ranges.specs.Ranges.{Ranged}
 use Rattle.ranges.proofs.FlatRows.{rows-apart}
 use Rattle.ranges.proofs.Sizing.{product-le}
 use Rattle.ranges.proofs.Values.{value-in}
-use Rattle.planes.specs.Planes.{byteRows, planeSize, bitSeen, Shows, lowBits}
+use Rattle.planes.specs.Planes.{byteRows, planeSize, bitSeen, Shows, lowBits, PlaneOnly, FramePacked}
 use Rattle.planes.proofs.WholeBytes.{one-value}
 use Rattle.planes.proofs.Views.{in-both, out-above, out-side, out-under}
 use Rattle.planes.proofs.OnGrids.{low-at, low-size}
@@ -152,3 +152,44 @@ group-fits {v} {W} {H} {C} {R} {f} k y hy =
       omega (arith, add-mul y (min (H - y) 8) W, mul-comm W H),
       omega arith,
     )
+
+-- bytes of a plane, counted as the code does
+pub room-for : {v W H C R : ℕ} {f d : List ℕ} → Packable v W H C R f d → byteRows R * (C + 2) + 2 * (C + 2) + 2 ≤ length d
+room-for {C = C} {R = R} k = omega (arith, add-mul (byteRows R) 2 (C + 2), k .room)
+
+-- the rows below y of the frame f are packed: the next group's bytes begin at p, and its cells at q; d₀ is the plane before the first
+abbrev pub Filling : ℕ → ℕ → ℕ → ℕ → ℕ → List ℕ → List ℕ → List ℕ → ℕ → ℕ → ℕ → Type 0
+Filling v W H C R f d₀ d p q y =
+    (y ≤ H + 7) × (y % 8 ≡ 0) × (p ≡ (y / 8 + 1) * (C + 2) + 2) × (q ≡ y * W) × (planeSize C R ≤ length d) × Until v W H C R y f d × PlaneOnly C R d₀ d
+
+module _ {v W H C R : ℕ} {f d : List ℕ} (k : Packable v W H C R f d) where
+  pub filling-none : {d₀ : List ℕ} → Ranged 0 0 (byteRows R * (C + 2) + 2 * (C + 2) + 2) (λ _. v * 255) d d₀ → Filling v W H C R f d₀ d₀ (C + 2 + 2) 0 0
+  filling-none r = (
+    omega arith,
+    omega arith,
+    omega arith,
+    omega arith,
+    omega (arith, r .len, k .room),
+    until-none v W H C R f (k .around) r,
+    record { len = refl; past = λ i l. refl },
+  )
+
+  module _ {d₀ d₁ : List ℕ} {p q y : ℕ} (i : Filling v W H C R f d₀ d₁ p q y) where
+    pub filling-more : {d₂ : List ℕ} → y < H → GroupPut W (H - y) p q (v * 255) f d₁ d₂ → Filling v W H C R f d₀ d₂ (p + (C + 2)) (q + 8 * W) (y + 8)
+    filling-more {d₂} l b =
+        let e : (y + 8) / 8 + 1 ≡ y / 8 + 1 + 1 = omega arith in
+        let g = group-fits k y l in (
+          omega arith,
+          omega (arith, i .1),
+          omega (arith, i .2, add-mul (y / 8 + 1) 1 (C + 2), ap (λ (n : ℕ). n * (C + 2)) e),
+          omega (arith, i .3, add-mul y 8 W),
+          omega (arith, i .4, b .len),
+          until-more v W H C R y p q f d₁ d₂ (k .around) (k .wide) l (i .1) (i .2) (i .3) (k .cells) (k .high) (i .5) b,
+          record { len = b .len ∙ i .6 .len; past = λ j u. b .above j (omega (arith, i .2, g .0)) ∙ i .6 .past j u },
+        )
+
+    pub filling-all : H ≤ y → Ranged 0 0 (byteRows R * (C + 2) + 2 * (C + 2) + 2) (λ _. v * 255) d d₀ → FramePacked v W H C R f d d₁
+    filling-all l r = record {
+      kept = record { len = i .6 .len ∙ r .len; past = λ j u. i .6 .past j u ∙ r .above j (omega (arith, add-mul (byteRows R) 2 (C + 2))) };
+      shown = until-all v W H C R f y l (i .4) (i .5);
+    }

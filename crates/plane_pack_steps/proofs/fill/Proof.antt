@@ -1,18 +1,14 @@
 -- The rows below y are packed, the others have the value outside; the measure is what is left of the frame's rows.
 use borrow.Author.Needs.{needs}
 use native.Mathlib.Omega.{arith}
-use mathlib.Core.Path.{_≡_, refl, ap, _∙_}
-use Prim.Native.Nat.{ℕ, _+_, _*_, _/_, _%_, _-_, _≤_}
-use native.Mathlib.Nat.{add-mul}
-use lib.ListN.{length}
+use Prim.Native.Nat.{_-_, zero-le}
 use Rattle.ranges.proofs.Ranges.{ranged-part}
-use Rattle.planes.specs.Planes.{byteRows, planeSize, PlaneOnly}
-use Rattle.plane_pack_steps.proofs.PackRows.{Until, until-none, until-more, until-all, group-fits}
+use Rattle.plane_pack_steps.proofs.PackRows.{group-fits, room-for, Filling, filling-none, filling-more, filling-all}
 use Rattle.plane_pack_steps.proofs.fill.Statement.{statement}
 use Rattle.plane_pack_steps.proofs.fill.Tie as tie
 
 abbrev Inv-loop : tie.InvT-loop
-Inv-loop f dst₀ w h gw gh outside s n v p₀ q₀ y₀ dst p q y = (y ≤ h + 7) × (y % 8 ≡ 0) × (p ≡ (y / 8 + 1) * (gw + 2) + 2) × (q ≡ y * w) × (planeSize gw gh ≤ length dst) × Until outside w h gw gh y f dst × PlaneOnly gw gh dst₀ dst
+Inv-loop f dst₀ w h gw gh outside s n v p₀ q₀ y₀ dst p q y = Filling outside w h gw gh f dst₀ dst p q y
 
 abbrev μ-loop : tie.MeasureT-loop
 μ-loop f dst₀ w h gw gh outside s n v p₀ q₀ y₀ dst p q y = h - y
@@ -55,10 +51,8 @@ add-p c = search needs
 
 loop-holds : tie.Need-loop-holds Inv-loop μ-loop
 loop-holds c =
-    let a = c .before .before .before .before .before .before .args in
-    let e = byteRows (a .gh) * (a .gw + 2) + 2 * (a .gw + 2) + 2 in
-    let r = ranged-part {a = 0} {e = e} {xs = a .dst .now} (omega arith) (omega (arith, add-mul (byteRows (a .gh)) 2 (a .gw + 2))) (c .before .before .fill .ensures) in
-    (omega arith, omega arith, omega arith, omega arith, omega (arith, r .len), until-none (a .outside) (a .w) (a .h) (a .gw) (a .gh) (a .f .now) (omega arith) r, record { len = refl; past = λ k l. refl })
+    let k = c .before .before .before .before .before .before .pre in
+    filling-none k (ranged-part {a = 0} zero-le (room-for k) (c .before .before .fill .ensures))
 
 sub-next : tie.Need-sub-next Inv-loop μ-loop
 sub-next c = search needs
@@ -83,32 +77,19 @@ loop-less c = search needs
 
 loop-again : tie.Need-loop-again Inv-loop μ-loop
 loop-again c =
-    let a = c .before .before .before .before .before .before .before .before .before .before .before .before .args in
+    let k = c .before .before .before .before .before .before .before .before .before .before .before .before .pre in
     let l = c .before .before .before .before .before .loop in
-    let b = c .before .before .next .ensures in
-    let g = group-fits (c .before .before .before .before .before .before .before .before .before .before .before .before .pre) (c .before .before .before .before .before .loop .y) (omega arith) in
-    let i : (l .y + 8) / 8 + 1 ≡ l .y / 8 + 1 + 1 = omega arith in (
-      omega arith,
-      omega arith,
-      omega (arith, add-mul (l .y / 8 + 1) 1 (a .gw + 2), ap (λ (n : ℕ). n * (a .gw + 2)) i),
-      omega (arith, add-mul (l .y) 8 (a .w)),
-      omega (arith, b .len),
-      until-more (a .outside) (a .w) (a .h) (a .gw) (a .gh) (l .y) (l .p) (l .q) (a .f .now) (l .dst) _ (omega arith) (omega arith) (omega arith) (omega arith) (omega arith) (omega arith) (omega arith) (omega arith) (l .inv .5) b,
-      record { len = b .len ∙ l .inv .6 .len; past = λ k u. b .above k (omega arith) ∙ l .inv .6 .past k u },
-    )
+    filling-more k {p = l .p} {q = l .q} {y = l .y} (l .inv) (c .before .before .before .before .loop-test .taken) (c .before .before .next .ensures)
 
 same-length : tie.Need-same-length Inv-loop μ-loop
 same-length c = search needs
 
 returns : tie.Need-returns Inv-loop μ-loop
 returns c =
-    let a = c .before .before .before .before .before .before .before .before .args in
+    let k = c .before .before .before .before .before .before .before .before .pre in
     let l = c .before .loop in
-    let e = byteRows (a .gh) * (a .gw + 2) + 2 * (a .gw + 2) + 2 in
-    let r = ranged-part {a = 0} {e = e} {xs = a .dst .now} (omega arith) (omega (arith, add-mul (byteRows (a .gh)) 2 (a .gw + 2))) (c .before .before .before .before .fill .ensures) in record {
-      kept = record { len = l .inv .6 .len ∙ r .len; past = λ k u. l .inv .6 .past k u ∙ r .above k (omega (arith, add-mul (byteRows (a .gh)) 2 (a .gw + 2))) };
-      shown = until-all (a .outside) (a .w) (a .h) (a .gw) (a .gh) (a .f .now) (l .y) (omega arith) (omega arith) (l .inv .5);
-    }
+    filling-all k {p = l .p} {q = l .q} {y = l .y} (l .inv) (c .loop-test .left)
+    (ranged-part {a = 0} zero-le (room-for k) (c .before .before .before .before .fill .ensures))
 
 pub fill-spec : {M : Type 1} → statement M
 fill-spec =
