@@ -47,6 +47,10 @@ module _ {n a m e : ℕ} (q : Edge n a m e) where
 pub between : {n a m p e : ℕ} → Edge n a 15 p → Edge n a m e → p < e → (15 ≤ p + a) × (e + a ≤ m)
 between hp he l = (let u = he .all in hp .next (omega arith), he .last (omega arith))
 
+-- so the part of the row begins within it
+pub part-begins : {n a m p e : ℕ} → Edge n a 15 p → Edge n a (m + 15) e → p < e → p + a - 15 ≤ m
+part-begins hp he l = let s = between hp he l in omega arith
+
 -- the cell of the part, and that of the row
 part-index : (p a k : ℕ) → 15 ≤ p + a → p ≤ k → p + a - 15 + (k - p) ≡ k + a - 15
 part-index p a k lo l = omega arith

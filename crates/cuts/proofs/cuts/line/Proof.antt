@@ -6,7 +6,7 @@ use Prim.Native.Nat.{_+_, _-_}
 use native.Mathlib.Nat.{le-refl}
 use lib.ListN.{length, getD}
 use Rattle.ranges.proofs.Ranges.{ranged-ap, ranged-copy}
-use Rattle.cuts.proofs.CutRows.{between, none-seen, three-runs}
+use Rattle.cuts.proofs.CutRows.{between, part-begins, none-seen, three-runs}
 use Rattle.cuts.proofs.cuts.line.Statement.{statement}
 use Rattle.cuts.proofs.cuts.line.Tie as tie
 
@@ -54,16 +54,16 @@ part-copy-end : tie.Need-part-copy-end
 part-copy-end c = search needs
 
 add-copy : tie.Need-add-copy
-add-copy c = let at-if = c .before .before .before .before .before in omega (arith, between (at-if .before .before .edge .ensures) (at-if .before .edge2 .ensures) (at-if .if1 .left))
+add-copy c = search needs
 
 sub-copy-2 : tie.Need-sub-copy-2
-sub-copy-2 c = let at-if = c .before .before .before .before .before in omega (arith, between (at-if .before .before .edge .ensures) (at-if .before .edge2 .ensures) (at-if .if1 .left))
+sub-copy-2 c = let at-if = c .before .before .before .before .before in between (at-if .before .before .edge .ensures) (at-if .before .edge2 .ensures) (at-if .if1 .left) .0
 
 sub-copy-3 : tie.Need-sub-copy-3
-sub-copy-3 c = let at-if = c .before .before .before .before .before in omega (arith, between (at-if .before .before .edge .ensures) (at-if .before .edge2 .ensures) (at-if .if1 .left))
+sub-copy-3 c = let at-if = c .before .before .before .before .before in part-begins (at-if .before .before .edge .ensures) (at-if .before .edge2 .ensures) (at-if .if1 .left)
 
 part-copy-start-2 : tie.Need-part-copy-start-2
-part-copy-start-2 c = let at-if = c .before .before .before .before .before in omega (arith, between (at-if .before .before .edge .ensures) (at-if .before .edge2 .ensures) (at-if .if1 .left))
+part-copy-start-2 c = let at-if = c .before .before .before .before .before in part-begins (at-if .before .before .edge .ensures) (at-if .before .edge2 .ensures) (at-if .if1 .left)
 
 part-copy-end-2 : tie.Need-part-copy-end-2
 part-copy-end-2 c = search needs

@@ -4,7 +4,7 @@ use Prim.Native.Nat.{_+_, _-_}
 use lib.ListN.{length, getD}
 use Rattle.ranges.proofs.Ranges.{ranged-ap}
 use Rattle.rows.specs.Cells.{bit}
-use Rattle.cuts.proofs.CutRows.{between, none-seen, three-runs, run-fits}
+use Rattle.cuts.proofs.CutRows.{between, part-begins, none-seen, three-runs, run-fits}
 use Rattle.plane_unpack_steps.proofs.HeldRows.{part-bits}
 use native.Mathlib.Omega.{arith}
 use borrow.Author.Needs.{needs}
@@ -58,13 +58,13 @@ add-halves : tie.Need-add-halves
 add-halves c = search needs
 
 sub-halves-2 : tie.Need-sub-halves-2
-sub-halves-2 c = omega (arith, between (c .before .before .before .before .before .before .before .edge .ensures) (c .before .before .before .before .before .before .edge2 .ensures) (c .before .before .before .before .before .if1 .left))
+sub-halves-2 c = between (c .before .before .before .before .before .before .before .edge .ensures) (c .before .before .before .before .before .before .edge2 .ensures) (c .before .before .before .before .before .if1 .left) .0
 
 sub-halves-3 : tie.Need-sub-halves-3
-sub-halves-3 c = omega (arith, between (c .before .before .before .before .before .before .before .edge .ensures) (c .before .before .before .before .before .before .edge2 .ensures) (c .before .before .before .before .before .if1 .left))
+sub-halves-3 c = part-begins (c .before .before .before .before .before .before .before .edge .ensures) (c .before .before .before .before .before .before .edge2 .ensures) (c .before .before .before .before .before .if1 .left)
 
 part-halves-start-2 : tie.Need-part-halves-start-2
-part-halves-start-2 c = omega (arith, between (c .before .before .before .before .before .before .before .edge .ensures) (c .before .before .before .before .before .before .edge2 .ensures) (c .before .before .before .before .before .if1 .left))
+part-halves-start-2 c = part-begins (c .before .before .before .before .before .before .before .edge .ensures) (c .before .before .before .before .before .before .edge2 .ensures) (c .before .before .before .before .before .if1 .left)
 
 part-halves-end-2 : tie.Need-part-halves-end-2
 part-halves-end-2 c = search needs
