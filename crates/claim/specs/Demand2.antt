@@ -31,7 +31,8 @@ pub record ListShows (S : PointSet) (out : List ℕ) (r : Answer) (out′ : List
   pub stands : ShapeSet (take (stated r .1) out′) ≐ S
   pub past : drop (stated r .1) out′ ≡ drop (stated r .1) out
 
--- 0 is answered, and the image i then is i′, which shows the set S on its grid: cell (x, y) is 1 if (x, y) lies in S, and 0 if not; its length and the bytes past the grid stay
+-- 0 is answered, and the image i then is i′, which shows the set S on its grid: cell (x, y) is 1 if (x, y) lies in S, and 0 if not; its length and the
+-- bytes past the grid stay
 pub record GridShows (W H : ℕ) (S : PointSet) (i : List ℕ) (r : Answer) (i′ : List ℕ) : Type 0 where
   pub answer : stated r ≡ result 0
   pub size : length i′ ≡ length i

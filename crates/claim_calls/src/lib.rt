@@ -16,7 +16,8 @@ fn operate(
     first: &mut [u8],
     second: &mut [u8],
 ) -> Answer
-    ensures { λ r. ⌜ Cleaned op (now (plan .entry)) w h (now (frame .entry)) (now (first .entry)) (now (second .entry)) r (now (first .exit)) (now (second .exit)) ⌝ }
+    ensures { λ r. ⌜ Cleaned op (now (plan .entry)) w h (now (frame .entry)) (now (first .entry)) (now (second .entry)) r (now (first .exit))
+        (now (second .exit)) ⌝ }
 {
     match op {
         Operation::Dilation => clean_calls::dilation(plan, w, h, frame, first, second),
@@ -37,7 +38,8 @@ fn steps(
     first: &mut [u8],
     second: &mut [u8],
 ) -> Answer
-    ensures { λ r. ⌜ Steps op (now (shape .entry)) w h (now (frame .entry)) (now (first .entry)) (now (second .entry)) (now (plan .entry)) r (now (first .exit)) (now (second .exit)) ⌝ }
+    ensures { λ r. ⌜ Steps op (now (shape .entry)) w h (now (frame .entry)) (now (first .entry)) (now (second .entry)) (now (plan .entry)) r
+        (now (first .exit)) (now (second .exit)) ⌝ }
 {
     let planned = plan_calls::plan(shape, plan);
     match planned {
@@ -60,7 +62,8 @@ pub fn run(
     first: &mut [u8],
     second: &mut [u8],
 ) -> Answer
-    ensures { λ r. ⌜ Claim op (now (shape .entry)) w h (now (frame .entry)) (now (first .entry)) (now (second .entry)) (stated r) (handedFor (stated r) w h (now (first .exit)) (now (second .exit)))
+    ensures { λ r. ⌜ Claim op (now (shape .entry)) w h (now (frame .entry)) (now (first .entry)) (now (second .entry)) (stated r) (handedFor
+        (stated r) w h (now (first .exit)) (now (second .exit)))
         × Lent w h (now (first .entry)) (now (second .entry)) (stated r) (now (first .exit)) (now (second .exit)) ⌝ }
 {
     let mut plan: [u32; 32] = [0; 32];

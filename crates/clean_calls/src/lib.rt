@@ -1,5 +1,5 @@
-// The four operations on a plan list, a frame and two work images: dilation, erosion, opening and closing. Each tries all grounds before it writes a byte, packs
-// the frame into a plane in the first image, and runs the stages and cuts the result by `turn_steps`.
+// The four operations on a plan list, a frame and two work images: dilation, erosion, opening and closing. Each tries all grounds before it writes a byte,
+// packs the frame into a plane in the first image, and runs the stages and cuts the result by `turn_steps`.
 use cleaning::Operation;
 use words::Answer;
 ghost use mathlib.Core.Path.{_≡_};
@@ -28,7 +28,8 @@ fn clean(
     first: &mut [u8],
     second: &mut [u8],
 ) -> Answer
-    ensures { λ r. ⌜ Cleaned op (now (plan .entry)) w h (now (frame .entry)) (now (first .entry)) (now (second .entry)) r (now (first .exit)) (now (second .exit)) ⌝ }
+    ensures { λ r. ⌜ Cleaned op (now (plan .entry)) w h (now (frame .entry)) (now (first .entry)) (now (second .entry)) r (now (first .exit))
+        (now (second .exit)) ⌝ }
 {
     let tested = refused(plan, w, h, frame, first, second);
     if let Answer::Refused(ground) = tested {
@@ -49,7 +50,8 @@ pub fn dilation(
     first: &mut [u8],
     second: &mut [u8],
 ) -> Answer
-    ensures { λ r. ⌜ Cleaned Dilation (now (plan .entry)) w h (now (frame .entry)) (now (first .entry)) (now (second .entry)) r (now (first .exit)) (now (second .exit)) ⌝ }
+    ensures { λ r. ⌜ Cleaned Dilation (now (plan .entry)) w h (now (frame .entry)) (now (first .entry)) (now (second .entry)) r (now (first .exit))
+        (now (second .exit)) ⌝ }
 {
     clean(Operation::Dilation, plan, w, h, frame, first, second)
 }
@@ -63,7 +65,8 @@ pub fn erosion(
     first: &mut [u8],
     second: &mut [u8],
 ) -> Answer
-    ensures { λ r. ⌜ Cleaned Erosion (now (plan .entry)) w h (now (frame .entry)) (now (first .entry)) (now (second .entry)) r (now (first .exit)) (now (second .exit)) ⌝ }
+    ensures { λ r. ⌜ Cleaned Erosion (now (plan .entry)) w h (now (frame .entry)) (now (first .entry)) (now (second .entry)) r (now (first .exit))
+        (now (second .exit)) ⌝ }
 {
     clean(Operation::Erosion, plan, w, h, frame, first, second)
 }
@@ -77,7 +80,8 @@ pub fn opening(
     first: &mut [u8],
     second: &mut [u8],
 ) -> Answer
-    ensures { λ r. ⌜ Cleaned Opening (now (plan .entry)) w h (now (frame .entry)) (now (first .entry)) (now (second .entry)) r (now (first .exit)) (now (second .exit)) ⌝ }
+    ensures { λ r. ⌜ Cleaned Opening (now (plan .entry)) w h (now (frame .entry)) (now (first .entry)) (now (second .entry)) r (now (first .exit))
+        (now (second .exit)) ⌝ }
 {
     clean(Operation::Opening, plan, w, h, frame, first, second)
 }
@@ -91,7 +95,8 @@ pub fn closing(
     first: &mut [u8],
     second: &mut [u8],
 ) -> Answer
-    ensures { λ r. ⌜ Cleaned Closing (now (plan .entry)) w h (now (frame .entry)) (now (first .entry)) (now (second .entry)) r (now (first .exit)) (now (second .exit)) ⌝ }
+    ensures { λ r. ⌜ Cleaned Closing (now (plan .entry)) w h (now (frame .entry)) (now (first .entry)) (now (second .entry)) r (now (first .exit))
+        (now (second .exit)) ⌝ }
 {
     clean(Operation::Closing, plan, w, h, frame, first, second)
 }

@@ -1,5 +1,5 @@
-// Columns and rows cut out of a source at a distance, on flat slices of bytes: cut. It goes row by row, and a row is at most three ranges. The value of cells that the
-// source does not have is the caller's. Cell x of a row is the source's x + a − 15, and so for rows with b.
+// Columns and rows cut out of a source at a distance, on flat slices of bytes: cut. It goes row by row, and a row is at most three ranges. The value of
+// cells that the source does not have is the caller's. Cell x of a row is the source's x + a − 15, and so for rows with b.
 ghost use mathlib.Core.Path.{_≡_};
 ghost use Prim.Native.Nat.{_+_, _*_, _≤_};
 ghost use lib.ListN.{length, getD};
@@ -9,7 +9,8 @@ ghost use Rattle.cuts.specs.Cuts.{cutOut, Cut, shifted, seen};
 // One row from a row of the source: the cells left of that row, those of it, and those right of it.
 fn line(row: &[u8], d: &mut [u8], a: usize, outside: u8)
     requires { ⌜ (length (now row) ≤ 65535) × (a ≤ 65535) ⌝ }
-    ensures { λ _. ⌜ Ranged 0 0 (length (now (d .entry))) (λ x. shifted outside (length (now (row .entry))) (λ i. getD (now (row .entry)) i 0) (x + a)) (now (d .entry)) (now (d .exit)) ⌝ }
+    ensures { λ _. ⌜ Ranged 0 0 (length (now (d .entry))) (λ x. shifted outside (length (now (row .entry))) (λ i. getD (now (row .entry)) i 0)
+        (x + a)) (now (d .entry)) (now (d .exit)) ⌝ }
 {
     let n = d.len();
     let m = row.len();

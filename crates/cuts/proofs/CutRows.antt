@@ -7,13 +7,14 @@ use native.Mathlib.Nat.{add-mul, mul-comm, mul-le-mul-right, le-trans, le-of-lt,
 use native.Mathlib.Omega.{arith}
 use lib.IntN.{ℤ, pos, negℤ, _-ℤ_, +ℤ-assoc}
 use lib.ListN.{length, getD}
+use borrow.Rule.Slice.PartMut.{midOf, putMid, mid-len}
 use borrow.Author.Tests.{lt-ltb, le-ltb, le-leb, lt-leb}
 use Rattle.plane.specs.Point.{_+ᵖ_}
 use Rattle.plane.proofs.Integer.{diff-ge, diff-lt}
 use Rattle.plane.proofs.Tests.{lt-or-le}
 use Rattle.grids.specs.Image.{valueAt, view}
 use Rattle.ranges.specs.Ranges.{Ranged, Laid, overFront}
-use Rattle.ranges.proofs.Ranges.{ranged-ap, ranged-join}
+use Rattle.ranges.proofs.Ranges.{ranged-ap, ranged-join, ranged-part}
 use Rattle.ranges.proofs.FlatRows.{rows-apart}
 use Rattle.ranges.proofs.Whole.{laid-is}
 use Rattle.ranges.proofs.Values.{value-in, value-right, value-under, value-left, value-above}
@@ -46,6 +47,10 @@ module _ {n a m e : ℕ} (q : Edge n a m e) where
 pub between : {n a m p e : ℕ} → Edge n a 15 p → Edge n a m e → p < e → (15 ≤ p + a) × (e + a ≤ m)
 between hp he l = (let u = he .all in hp .next (omega arith), he .last (omega arith))
 
+-- so the part of the row begins within it
+pub part-begins : {n a m p e : ℕ} → Edge n a 15 p → Edge n a (m + 15) e → p < e → p + a - 15 ≤ m
+part-begins hp he l = let s = between hp he l in omega arith
+
 -- the cell of the part, and that of the row
 part-index : (p a k : ℕ) → 15 ≤ p + a → p ≤ k → p + a - 15 + (k - p) ≡ k + a - 15
 part-index p a k lo l = omega arith
@@ -72,6 +77,30 @@ module _ (v m : ℕ) (c : ℕ → ℕ) {n a p e : ℕ} (hp : Edge n a 15 p) (he 
       (λ (h : k < p). shifted-left v m c (k + a) (edge-before hp k h))
       (λ (h : p ≤ k). shifted-right v m c (k + a) (edge-after he k (le-trans l h) u))
       (lt-or-le k p)
+
+-- the row, from what was written to the three parts of d. The second comes from where it is known to fit.
+pub three-runs : (v m a : ℕ) (c : ℕ → ℕ) (d : List ℕ) {p e : ℕ} {y₁ d₂ y₃ : List ℕ} → Edge (length d) a 15 p → Edge (length d) a (m + 15) e → p < e
+    → Ranged 0 0 (length (midOf 0 (p - 0) d)) (λ _. v) (midOf 0 (p - 0) d) y₁
+    → (p ≤ e → e ≤ length (putMid 0 (p - 0) d y₁) → e - p ≤ m - (p + a - 15) → Ranged 0 p e (λ k. c (p + a - 15 + (k - p))) (putMid 0 (p - 0) d y₁) d₂)
+    → Ranged 0 0 (length (midOf e (length d - e) d₂)) (λ _. v) (midOf e (length d - e) d₂) y₃
+    → Ranged 0 0 (length d) (λ x. shifted v m c (x + a)) d (putMid e (length d - e) d₂ y₃)
+three-runs v m a c d {p} {e} hp he l f₁ f₂ f₃ =
+    let s = between hp he l in
+    let r₁ = ranged-part {a = 0} {e = p} {xs = d} zero-le (hp .all) f₁ in
+    let r₂ = f₂ (le-of-lt l) (omega (arith, r₁ .len, he .all)) (omega (arith, s .0, s .1)) in
+    let r₃ = ranged-part {a = e} {e = length d} (he .all) (omega (arith, r₁ .len, r₂ .len)) f₃ in
+    line-is v m c hp he l r₁ r₂ r₃
+
+-- the second part is no longer than what is left of the row
+pub run-fits : (v a : ℕ) (row d : List ℕ) {p e : ℕ} {y₁ : List ℕ} → Edge (length d) a 15 p → Edge (length d) a (length row + 15) e → p < e
+    → Ranged 0 0 (length (midOf 0 (p - 0) d)) (λ _. v) (midOf 0 (p - 0) d) y₁
+    → length (midOf p (e - p) (putMid 0 (p - 0) d y₁)) ≤ length (midOf (p + a - 15) (length row - (p + a - 15)) row)
+run-fits v a row d {p} {e} {y₁} hp he l f₁ =
+    let s = between hp he l in
+    let r₁ = ranged-part {a = 0} {e = p} {xs = d} zero-le (hp .all) f₁ in
+    let x = mid-len p e (putMid 0 (p - 0) d y₁) (omega (arith, r₁ .len, he .all)) in
+    let y = mid-len (p + a - 15) (length row) row (omega arith) in
+    omega (arith, s .0, s .1, x, y)
 
 -- ---- the source, and the cells outside it
 

@@ -89,7 +89,8 @@ pub extern "C" fn musq_dilate(
     first: &mut [u8],
     second: &mut [u8],
 ) -> i64
-    ensures { λ r. ⌜ Stands r (λ a. Cleaned Dilation (now (plan .entry)) w h (now (frame .entry)) (now (first .entry)) (now (second .entry)) a (now (first .exit)) (now (second .exit))) ⌝ }
+    ensures { λ r. ⌜ Stands r (λ a. Cleaned Dilation (now (plan .entry)) w h (now (frame .entry)) (now (first .entry)) (now (second .entry)) a
+        (now (first .exit)) (now (second .exit))) ⌝ }
 {
     numbers::signed(clean_calls::dilation(plan, w, h, frame, first, second))
 }
@@ -104,7 +105,8 @@ pub extern "C" fn musq_erode(
     first: &mut [u8],
     second: &mut [u8],
 ) -> i64
-    ensures { λ r. ⌜ Stands r (λ a. Cleaned Erosion (now (plan .entry)) w h (now (frame .entry)) (now (first .entry)) (now (second .entry)) a (now (first .exit)) (now (second .exit))) ⌝ }
+    ensures { λ r. ⌜ Stands r (λ a. Cleaned Erosion (now (plan .entry)) w h (now (frame .entry)) (now (first .entry)) (now (second .entry)) a
+        (now (first .exit)) (now (second .exit))) ⌝ }
 {
     numbers::signed(clean_calls::erosion(plan, w, h, frame, first, second))
 }
@@ -119,7 +121,8 @@ pub extern "C" fn musq_open(
     first: &mut [u8],
     second: &mut [u8],
 ) -> i64
-    ensures { λ r. ⌜ Stands r (λ a. Cleaned Opening (now (plan .entry)) w h (now (frame .entry)) (now (first .entry)) (now (second .entry)) a (now (first .exit)) (now (second .exit))) ⌝ }
+    ensures { λ r. ⌜ Stands r (λ a. Cleaned Opening (now (plan .entry)) w h (now (frame .entry)) (now (first .entry)) (now (second .entry)) a
+        (now (first .exit)) (now (second .exit))) ⌝ }
 {
     numbers::signed(clean_calls::opening(plan, w, h, frame, first, second))
 }
@@ -134,7 +137,8 @@ pub extern "C" fn musq_close(
     first: &mut [u8],
     second: &mut [u8],
 ) -> i64
-    ensures { λ r. ⌜ Stands r (λ a. Cleaned Closing (now (plan .entry)) w h (now (frame .entry)) (now (first .entry)) (now (second .entry)) a (now (first .exit)) (now (second .exit))) ⌝ }
+    ensures { λ r. ⌜ Stands r (λ a. Cleaned Closing (now (plan .entry)) w h (now (frame .entry)) (now (first .entry)) (now (second .entry)) a
+        (now (first .exit)) (now (second .exit))) ⌝ }
 {
     numbers::signed(clean_calls::closing(plan, w, h, frame, first, second))
 }

@@ -68,7 +68,8 @@ fn laid(a: u8, c: u8, j: usize) -> u8
 // A row of cells put into bit j of the bytes of d.
 fn lay(d: &mut [u8], s: &[u8], j: usize)
     requires { ⌜ (length (now d) ≤ length (now s)) × (j < 8) ⌝ }
-    ensures { λ _. ⌜ Bitted 0 (length (now (d .entry))) (λ k q. laidBit (getD (now (d .entry)) k 0) (getD (now (s .entry)) k 0) j q) (now (d .entry)) (now (d .exit)) ⌝ }
+    ensures { λ _. ⌜ Bitted 0 (length (now (d .entry))) (λ k q. laidBit (getD (now (d .entry)) k 0) (getD (now (s .entry)) k 0) j q)
+        (now (d .entry)) (now (d .exit)) ⌝ }
 {
     let mut k = 0;
     while k < d.len() {

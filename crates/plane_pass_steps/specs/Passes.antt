@@ -41,7 +41,8 @@ liftedBit s c t k q = spanned (getD s (k + c) 0) (getD s k 0) t q
 
 -- bit q of byte k of d, taken together with three bits that are raised
 abbrev pub joinedBit : Bool → List ℕ → List ℕ → ℕ → ℕ → ℕ → ℕ → ℕ → ℕ → ℕ → ℕ
-joinedBit erode d s c x y z t k q = pickOf erode (bit (getD d k 0) q) (ofThree erode (liftedBit s c t (k + x) q) (liftedBit s c t (k + y) q) (liftedBit s c t (k + z) q))
+joinedBit erode d s c x y z t k q = pickOf erode (bit (getD d k 0) q) (ofThree erode (liftedBit s c t (k + x) q) (liftedBit s c t (k + y) q)
+    (liftedBit s c t (k + z) q))
 
 -- ---- what the passes promise: all of the bytes d, which then are d′, or none where something that is read is not there
 
@@ -51,4 +52,5 @@ PassLevelled erode s x y z d r d′ = Fitted (readsFit (length d) (length s) 0 x
 
 -- a mask's row 2, or 1: each byte of d was joined with the pick of three that are raised
 abbrev pub PassRaised : Bool → Bool → List ℕ → ℕ → ℕ → ℕ → ℕ → List ℕ → Bool → List ℕ → Type 0
-PassRaised erode second s c x y z d r d′ = Fitted (readsFit (length d) (length s) c x y z) (Bitted 0 (length d) (joinedBit erode d s c x y z (liftOf erode (maskRowOf second))) d d′) d r d′
+PassRaised erode second s c x y z d r d′ = Fitted (readsFit (length d) (length s) c x y z) (Bitted 0 (length d) (joinedBit erode d s c x y z
+    (liftOf erode (maskRowOf second))) d d′) d r d′

@@ -28,7 +28,8 @@ pub(crate) fn join(
     t: u32,
     erode: bool,
 )
-    requires { ⌜ (length (now d) + (x + c) ≤ length (now s)) × (length (now d) + (y + c) ≤ length (now s)) × (length (now d) + (z + c) ≤ length (now s)) × (0 < t) × (t < 8) ⌝ }
+    requires { ⌜ (length (now d) + (x + c) ≤ length (now s)) × (length (now d) + (y + c) ≤ length (now s)) × (length (now d) + (z + c) ≤ length
+        (now s)) × (0 < t) × (t < 8) ⌝ }
     ensures { λ _. ⌜ Bitted 0 (length (now (d .entry))) (joinedBit erode (now (d .entry)) (now (s .entry)) c x y z t) (now (d .entry)) (now (d .exit)) ⌝ }
 {
     let mut k = 0;

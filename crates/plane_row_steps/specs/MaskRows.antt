@@ -58,7 +58,8 @@ stepOf false x i = x - i
 pub record Rowed (erode : Bool) (s m : ℕ) (p d d′ : List ℕ) : Type 0 where
   pub len : length d′ ≡ length d
   pub at : (x y : ℕ) → 2 ≤ x → 8 ≤ y → y / 8 * s + x < s + 2 + length d
-      → bit (getD d′ (y / 8 * s + x - (s + 2)) 0) (y % 8) ≡ overBits (pickOf erode) (seedOf erode) (λ b. bitSeen s p (stepOf erode x (b % 3)) (stepOf erode y (b / 3))) m 9
+      → bit (getD d′ (y / 8 * s + x - (s + 2)) 0) (y % 8) ≡ overBits (pickOf erode) (seedOf erode) (λ b. bitSeen s p (stepOf erode x (b % 3))
+      (stepOf erode y (b / 3))) m 9
 
 -- around n bytes of a plane in m bytes, s of them a row, a row and two bytes more are there on either side
 abbrev pub rowsFit : ℕ → ℕ → ℕ → Bool

@@ -46,7 +46,8 @@ fn next_row(
     erode: bool,
 )
     requires { ⌜ (length (now d) + (o + 2 + c) ≤ length (now s)) × (b ≡ 3 * maskRowOf second) × (b ≤ 6) ⌝ }
-    ensures { λ _. ⌜ Bitted 0 (length (now (d .entry))) (nextBit erode (now (d .entry)) (now (s .entry)) o c mask (maskRowOf second)) (now (d .entry)) (now (d .exit)) ⌝ }
+    ensures { λ _. ⌜ Bitted 0 (length (now (d .entry))) (nextBit erode (now (d .entry)) (now (s .entry)) o c mask (maskRowOf second))
+        (now (d .entry)) (now (d .exit)) ⌝ }
 {
     let f = columns::first(mask, b);
     if f == 3 {
@@ -87,8 +88,8 @@ fn rows_fit(n: usize, m: usize, s: usize) -> bool
     n <= m - (2 * s + 4)
 }
 
-// The cells of the stage of mask, in the bytes d that begin at the first cell of the plane in src, s bytes a row. False, with nothing written, where a cell that
-// is read is not there.
+// The cells of the stage of mask, in the bytes d that begin at the first cell of the plane in src, s bytes a row. False, with nothing written, where a cell
+// that is read is not there.
 pub fn rows(d: &mut [u8], src: &[u8], s: usize, mask: u16, erode: bool) -> bool
     ensures { λ r. ⌜ MaskRead erode s mask (now (src .entry)) (now (d .entry)) r (now (d .exit)) ⌝ }
 {

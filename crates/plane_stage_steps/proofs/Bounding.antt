@@ -3,7 +3,7 @@ use mathlib.Core.Path.{_≡_, refl, ap, _∙_}
 use mathlib.Core.Logic.{⊎-elim}
 use mathlib.Core.Bool.{cond}
 use mathlib.Core.List.{List}
-use Prim.Native.Nat.{ℕ, _+_, _-_, _*_, _<_, _≤_}
+use Prim.Native.Nat.{ℕ, _+_, _-_, _*_, _<_, _≤_, zero-le}
 use native.Mathlib.Nat.{add-mul, mul-le-mul-right}
 use native.Mathlib.Omega.{arith}
 use lib.Dec.{ltb}
@@ -13,7 +13,7 @@ use borrow.Rule.Slice.PartMut.{midOf, putMid}
 use Rattle.plane.proofs.Tests.{lt-or-le}
 use Rattle.rows.specs.Cells.{bit}
 use Rattle.ranges.specs.Ranges.{Ranged}
-use Rattle.ranges.proofs.Ranges.{getD-mid}
+use Rattle.ranges.proofs.Ranges.{getD-mid, ranged-part}
 use Rattle.ranges.proofs.FlatRows.{rows-apart}
 use Rattle.planes.specs.Bytes.{Bitted}
 use Rattle.planes.proofs.Bitting.{bitted-part, bitted-ap}
@@ -58,3 +58,16 @@ module _ (s n r v : ℕ) {d d₁ d₂ d₃ d₄ : List ℕ} (h : 2 ≤ s) (m : 0
         ∙ ap (λ (i : ℕ). cond (ltb q r) (bit i q) (bit v q)) (kept n x m (omega arith) lx hx);
     past = λ k l. let a = add-mul n 2 s in t .above k (omega arith) ∙ p .above k (omega arith) ∙ g .above k (omega arith) ∙ f .above k (omega (arith, one-row));
   }
+
+-- the same, from what was written to the two parts of d and to the pads. The last row comes from where it is known to be there.
+pub bounds-made : (s n r v : ℕ) {d y₁ y₂ d₃ d₄ : List ℕ} → 2 ≤ s → 0 < n → (n + 2) * s + 2 ≤ length d
+    → Ranged 0 0 (length (midOf 0 (s + 2 - 0) d)) (λ _. v) (midOf 0 (s + 2 - 0) d) y₁
+    → Ranged 0 0 (length (midOf (n * s + s) (n * s + 2 * s + 2 - (n * s + s)) (putMid 0 (s + 2 - 0) d y₁))) (λ _. v)
+    (midOf (n * s + s) (n * s + 2 * s + 2 - (n * s + s)) (putMid 0 (s + 2 - 0) d y₁)) y₂
+    → Padded s n v (putMid (n * s + s) (n * s + 2 * s + 2 - (n * s + s)) (putMid 0 (s + 2 - 0) d y₁) y₂) d₃
+    → (n * s + 2 ≤ n * s + s → n * s + s ≤ length d₃ → Bitted (n * s + 2) (n * s + s) (trimmedBit r v d₃) d₃ d₄) → Bounded s n r v d d₄
+bounds-made s n r v {d} h m fits f₁ f₂ p t =
+    let a = add-mul n 2 s in
+    let f = ranged-part {a = 0} {e = s + 2} {xs = d} zero-le (omega arith) f₁ in
+    let g = ranged-part {a = n * s + s} {e = n * s + 2 * s + 2} (omega arith) (omega (arith, f .len)) f₂ in
+    bounded s n r v h m f g p (t (omega arith) (omega (arith, p .len, g .len, f .len)))

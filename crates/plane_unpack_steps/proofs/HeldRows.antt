@@ -1,14 +1,14 @@
 -- A row of a plane's bytes, bit by bit, is a row of its cells.
 use mathlib.Core.Path.{_≡_, sym, ap, _∙_}
 use mathlib.Core.List.{List}
-use Prim.Native.Nat.{ℕ, _+_, _-_, _*_, _/_, _%_, _<_, _≤_}
+use Prim.Native.Nat.{ℕ, _+_, _-_, _*_, _/_, _%_, _<_, _≤_, zero-le}
 use native.Mathlib.Nat.{add-mul, mul-le-mul-right}
 use native.Mathlib.Omega.{arith}
 use lib.ListN.{length, getD}
 use borrow.Rule.Slice.PartMut.{midOf, putMid}
 use Rattle.rows.specs.Cells.{bit}
 use Rattle.ranges.specs.Ranges.{Ranged}
-use Rattle.ranges.proofs.Ranges.{getD-mid, ranged-ap, ranged-part}
+use Rattle.ranges.proofs.Ranges.{getD-mid, ranged-ap, ranged-part, ranged-lap}
 use Rattle.planes.specs.Planes.{byteRows, planeSize, bitSeen, planeCells}
 use Rattle.planes.proofs.OnGrids.{held-cell}
 
@@ -35,3 +35,23 @@ pub part-bits : (j c : ℕ) (row : List ℕ) {a e : ℕ} {xs ys : List ℕ} → 
     → Ranged 0 a e (λ k. bit (getD row (c + (k - a)) 0) j) xs (putMid a (e - a) xs ys)
 part-bits j c row {a} h g u r =
     ranged-ap (ranged-part h g r) (λ k lo hi. ap (λ (n : ℕ). bit n j) (getD-mid 0 c (length row - c) row (k - a) (omega arith)))
+
+-- a whole number of 32 cells that is at least the half of n, and no more than n
+pub half-of : (n : ℕ) → 64 ≤ n → ((n - n / 2 + 31) / 32 * 32 ≤ n) × (n ≤ (n - n / 2 + 31) / 32 * 32 + (n - n / 2 + 31) / 32 * 32)
+half-of n l = (omega arith, omega arith)
+
+-- the first h cells and the last h are all
+pub halves-made : (j h : ℕ) (s d : List ℕ) {y₁ y₂ : List ℕ} → h ≤ length d → length d ≤ h + h
+    → Ranged 0 0 (length (midOf 0 (h - 0) d)) (λ k. bit (getD s k 0) j) (midOf 0 (h - 0) d) y₁
+    → Ranged 0 0 (length (midOf (length d - h) (length d - (length d - h)) (putMid 0 (h - 0) d y₁)))
+    (λ k. bit (getD (midOf (length d - h) (length d - (length d - h)) s) k 0) j)
+    (midOf (length d - h) (length d - (length d - h)) (putMid 0 (h - 0) d y₁)) y₂
+    → Ranged 0 0 (length d) (λ k. bit (getD s k 0) j) d (putMid (length d - h) (length d - (length d - h)) (putMid 0 (h - 0) d y₁) y₂)
+halves-made j h s d l u f₁ f₂ =
+    let n = length d in
+    let r = ranged-ap (ranged-part {a = 0} {e = h} {xs = d} zero-le l f₁) (λ k lo hi. let e : k - 0 ≡ k = omega arith in ap (λ (i : ℕ). bit (getD s i 0) j) e) in
+    let t = ranged-ap (ranged-part {a = n - h} {e = n} (omega arith) (omega (arith, r .len)) f₂)
+    (λ k lo hi.
+    let e : n - h + (k - (n - h)) ≡ k = omega arith in
+    ap (λ (i : ℕ). bit i j) (getD-mid 0 (n - h) (n - (n - h)) s (k - (n - h)) (omega arith) ∙ ap (λ (i : ℕ). getD s i 0) e)) in
+    ranged-lap r t zero-le (omega arith) l

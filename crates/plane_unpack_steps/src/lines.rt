@@ -37,7 +37,8 @@ fn halves(d: &mut [u8], s: &[u8], j: u32)
 // One row from bit j of a row of bytes.
 fn line(row: &[u8], d: &mut [u8], j: u32, a: usize, outside: u8)
     requires { ⌜ (length (now row) ≤ 65535) × (a ≤ 65535) × (j < 8) ⌝ }
-    ensures { λ _. ⌜ Ranged 0 0 (length (now (d .entry))) (λ x. shifted outside (length (now (row .entry))) (λ i. bit (getD (now (row .entry)) i 0) j) (x + a)) (now (d .entry)) (now (d .exit)) ⌝ }
+    ensures { λ _. ⌜ Ranged 0 0 (length (now (d .entry))) (λ x. shifted outside (length (now (row .entry))) (λ i. bit (getD
+        (now (row .entry)) i 0) j) (x + a)) (now (d .entry)) (now (d .exit)) ⌝ }
 {
     let n = d.len();
     let m = row.len();
@@ -55,7 +56,8 @@ fn line(row: &[u8], d: &mut [u8], j: u32, a: usize, outside: u8)
 // One row from the plane's row t − 15, or from above or below the plane's rows.
 fn across(src: &[u8], d: &mut [u8], gw: usize, gh: usize, a: usize, t: usize, outside: u8)
     requires { ⌜ (planeSize gw gh ≤ length (now src)) × (gw ≤ 65535) × (gh ≤ 65535) × (a ≤ 65535) ⌝ }
-    ensures { λ _. ⌜ Ranged 0 0 (length (now (d .entry))) (λ x. seen outside gw gh (planeCells gw gh (now (src .entry))) (x + a) t) (now (d .entry)) (now (d .exit)) ⌝ }
+    ensures { λ _. ⌜ Ranged 0 0 (length (now (d .entry))) (λ x. seen outside gw gh (planeCells gw gh (now (src .entry))) (x + a) t) (now (d .entry))
+        (now (d .exit)) ⌝ }
 {
     if t < 15 {
         ranges::fill(d, outside);
@@ -82,7 +84,8 @@ pub(crate) fn down(
     b: usize,
     outside: u8,
 )
-    requires { ⌜ (planeSize gw gh ≤ length (now src)) × (w * h ≤ length (now dst)) × (w ≤ 65535) × (h ≤ 65535) × (gw ≤ 65535) × (gh ≤ 65535) × (a ≤ 65535) × (b ≤ 65535) ⌝ }
+    requires { ⌜ (planeSize gw gh ≤ length (now src)) × (w * h ≤ length (now dst)) × (w ≤ 65535) × (h ≤ 65535) × (gw ≤ 65535) × (gh ≤ 65535) ×
+        (a ≤ 65535) × (b ≤ 65535) ⌝ }
     ensures { λ _. ⌜ now (dst .exit) ≡ overFront (w * h) (cutOut outside w h gw gh a b (planeCells gw gh (now (src .entry)))) (now (dst .entry)) ⌝ }
 {
     let mut p: usize = 0;

@@ -1,6 +1,6 @@
--- Bit planes: a picture of zeros and ones, eight rows of cells to a byte. A plane of C columns and R rows has C + 2 bytes a row of bytes, of which the first two
--- are pads, a row of bytes more above and below, and two bytes at its end; what is no cell of the picture holds the value outside it. So a cell up to two
--- columns or eight rows away is always a cell of the plane, and no flat distance that a stage reads at wraps into another row's cells.
+-- Bit planes: a picture of zeros and ones, eight rows of cells to a byte. A plane of C columns and R rows has C + 2 bytes a row of bytes, of which the
+-- first two are pads, a row of bytes more above and below, and two bytes at its end; what is no cell of the picture holds the value outside it. So a cell
+-- up to two columns or eight rows away is always a cell of the plane, and no flat distance that a stage reads at wraps into another row's cells.
 use mathlib.Core.Path.{_≡_}
 use mathlib.Core.Bool.{Bool, _&&_}
 use mathlib.Core.List.{List, map}

@@ -1,4 +1,5 @@
-// Bit planes: definitions and laws, and which sides a plane may have (sides). What is done with planes is in plane_pack_steps, plane_stage_steps and plane_unpack_steps.
+// Bit planes: definitions and laws, and which sides a plane may have (sides). What is done with planes is in plane_pack_steps, plane_stage_steps and
+// plane_unpack_steps.
 ghost use mathlib.Core.Path.{_≡_};
 ghost use Rattle.planes.specs.Planes.{planeSides};
 

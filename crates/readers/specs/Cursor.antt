@@ -1,4 +1,5 @@
--- Document 01, "Words": the reader of a list stands on the caller's words. What stands at a position of a list, how much is left there, and where n words on is.
+-- Document 01, "Words": the reader of a list stands on the caller's words. What stands at a position of a list, how much is left there, and where n words
+-- on is.
 use mathlib.Core.List.{List}
 use Prim.Native.Nat.{ℕ, _+_, _-_}
 use lib.Dec.{ltb}

@@ -1,4 +1,5 @@
--- Document 01, "Frames": an operation from the plane that the frame is packed into to the result. All stages are run, and the result is cut from the last plane.
+-- Document 01, "Frames": an operation from the plane that the frame is packed into to the result. All stages are run, and the result is cut from the last
+-- plane.
 use mathlib.Core.Path.{_≡_}
 use mathlib.Core.List.{List}
 use Prim.Native.Nat.{ℕ, _≤_}

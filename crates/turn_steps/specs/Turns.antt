@@ -1,4 +1,5 @@
--- Document 01, "Frames": two work images that take turns. A plane that shows the grid stands in one of them, and each single stage writes the next one into the other.
+-- Document 01, "Frames": two work images that take turns. A plane that shows the grid stands in one of them, and each single stage writes the next one into
+-- the other.
 use mathlib.Core.Path.{_≡_}
 use mathlib.Core.Bool.{Bool, false, cond}
 use mathlib.Core.List.{List}

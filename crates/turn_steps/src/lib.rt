@@ -39,8 +39,8 @@ fn runnable(plan: &[u32], w: usize, h: usize, first: &[u8], second: &[u8]) -> bo
     true
 }
 
-// The stages of an operation, on the plane in the first image, and the cut of the result. Returns the number of stages run; 0, with the images as they were, where
-// the plan list or the images cannot be run.
+// The stages of an operation, on the plane in the first image, and the cut of the result. Returns the number of stages run; 0, with the images as they
+// were, where the plan list or the images cannot be run.
 pub fn run(
     op: Operation,
     plan: &[u32],

@@ -3,9 +3,10 @@ use borrow.Author.Needs.{needs}
 use native.Mathlib.Omega.{arith}
 use mathlib.Core.Path.{sym}
 use Prim.Native.Nat.{_+_, _-_}
+use native.Mathlib.Nat.{le-refl}
 use lib.ListN.{length, getD}
-use Rattle.ranges.proofs.Ranges.{ranged-ap, ranged-part, ranged-copy}
-use Rattle.cuts.proofs.CutRows.{between, none-seen, line-is}
+use Rattle.ranges.proofs.Ranges.{ranged-ap, ranged-copy}
+use Rattle.cuts.proofs.CutRows.{between, part-begins, none-seen, three-runs}
 use Rattle.cut_steps.proofs.line.Statement.{statement}
 use Rattle.cut_steps.proofs.line.Tie as tie
 
@@ -53,16 +54,16 @@ part-copy-end : tie.Need-part-copy-end
 part-copy-end c = search needs
 
 add-copy : tie.Need-add-copy
-add-copy c = let at-if = c .before .before .before .before .before in omega (arith, between (at-if .before .before .edge .ensures) (at-if .before .edge2 .ensures) (at-if .if1 .left))
+add-copy c = search needs
 
 sub-copy-2 : tie.Need-sub-copy-2
-sub-copy-2 c = let at-if = c .before .before .before .before .before in omega (arith, between (at-if .before .before .edge .ensures) (at-if .before .edge2 .ensures) (at-if .if1 .left))
+sub-copy-2 c = let at-if = c .before .before .before .before .before in between (at-if .before .before .edge .ensures) (at-if .before .edge2 .ensures) (at-if .if1 .left) .0
 
 sub-copy-3 : tie.Need-sub-copy-3
-sub-copy-3 c = let at-if = c .before .before .before .before .before in omega (arith, between (at-if .before .before .edge .ensures) (at-if .before .edge2 .ensures) (at-if .if1 .left))
+sub-copy-3 c = let at-if = c .before .before .before .before .before in part-begins (at-if .before .before .edge .ensures) (at-if .before .edge2 .ensures) (at-if .if1 .left)
 
 part-copy-start-2 : tie.Need-part-copy-start-2
-part-copy-start-2 c = let at-if = c .before .before .before .before .before in omega (arith, between (at-if .before .before .edge .ensures) (at-if .before .edge2 .ensures) (at-if .if1 .left))
+part-copy-start-2 c = let at-if = c .before .before .before .before .before in part-begins (at-if .before .before .edge .ensures) (at-if .before .edge2 .ensures) (at-if .if1 .left)
 
 part-copy-end-2 : tie.Need-part-copy-end-2
 part-copy-end-2 c = search needs
@@ -91,11 +92,12 @@ returns-2 c =
     let a = at-if .before .before .before .before .before .args in
     let p = at-if .before .before .edge in
     let e = at-if .before .edge2 in
-    let s = between (p .ensures) (e .ensures) (at-if .if1 .left) in
-    let r₁ = ranged-part {a = 0} {e = p .result} {xs = a .d .now} (omega arith) (omega arith) (c .before .before .before .before .before .before .before .before .before .before .before .fill2 .ensures) in
-    let r₂ = ranged-copy (p .result + a .a - 15) (length (a .row .now)) (a .row .now) {a = p .result} {e = e .result} (omega arith) (omega (arith, r₁ .len)) (omega arith) (omega (arith, s)) (c .before .before .before .before .before .before .copy .ensures) in
-    let r₃ = ranged-part {a = e .result} {e = length (a .d .now)} (omega arith) (omega (arith, r₁ .len, r₂ .len)) (c .before .before .fill3 .ensures) in
-    line-is (a .outside) (length (a .row .now)) (λ i. getD (a .row .now) i 0) (p .ensures) (e .ensures) (at-if .if1 .left) r₁ r₂ r₃
+    let row = a .row .now in
+    three-runs (a .outside) (length row) (a .a) (λ i. getD row i 0) (a .d .now) (p .ensures) (e .ensures) (at-if .if1 .left)
+    (c .before .before .before .before .before .before .before .before .before .before .before .fill2 .ensures)
+    (λ h g u.
+    ranged-copy (p .result + a .a - 15) (length row) row {a = p .result} {e = e .result} h g (le-refl _) u (c .before .before .before .before .before .before .copy .ensures))
+    (c .before .before .fill3 .ensures)
 
 pub line-spec : {M : Type 1} → statement M
 line-spec =

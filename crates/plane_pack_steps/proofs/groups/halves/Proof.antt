@@ -1,12 +1,8 @@
 -- The two halves are all bytes.
-use native.Mathlib.Omega.{arith}
 use borrow.Author.Needs.{needs}
-use mathlib.Core.Path.{_≡_, ap, _∙_}
-use Prim.Native.Nat.{ℕ, _+_, _-_, _*_, _/_, _%_}
-use native.Mathlib.Nat.{mul-le-mul-right}
-use lib.ListN.{length, getD}
-use Rattle.ranges.proofs.Ranges.{getD-mid}
-use Rattle.planes.proofs.Bitting.{bitted-ap, bitted-part, bitted-lap}
+use Prim.Native.Nat.{_+_, _-_, _*_, _/_}
+use lib.ListN.{length}
+use Rattle.plane_pack_steps.proofs.Grouping.{half-of, halves-made}
 use Rattle.plane_pack_steps.proofs.groups.halves.Statement.{statement}
 use Rattle.plane_pack_steps.proofs.groups.halves.Tie as tie
 
@@ -72,18 +68,11 @@ same-length-2 c = search needs
 
 returns-2 : tie.Need-returns-2
 returns-2 c =
-    let a = c .before .before .before .before .before .before .before .before .before .before .before .before .args in
+    let st = c .before .before .before .before .before .before .before .before .before .before .before .before in
+    let a = st .args in
     let n = length (a .d .now) in
-    let h = (n - n / 2 + 15) / 16 * 16 in
-    let s = a .s .now in
-    let r = bitted-ap (bitted-part {a = 0} {e = h} {xs = a .d .now} (omega arith) (omega arith) (c .before .before .before .before .before .before .before .eights2 .ensures))
-    (λ k q lo hi lq. let e : k - 0 ≡ k = omega arith in ap (λ (i : ℕ). getD s (q * a .w + i) 0 % 2) e) in
-    let t = bitted-ap (bitted-part {a = n - h} {e = n} (omega arith) (omega (arith, r .len)) (c .before .before .eights3 .ensures))
-    (λ k q lo hi lq.
-    let e : n - h + (q * a .w + (k - (n - h))) ≡ q * a .w + k = omega arith in
-    let l = mul-le-mul-right {m = q} {n = 7} (a .w) (omega arith) in
-    ap (λ (i : ℕ). i % 2) (getD-mid 0 (n - h) (length s - (n - h)) s (q * a .w + (k - (n - h))) (omega arith) ∙ ap (λ (i : ℕ). getD s i 0) e)) in
-    bitted-lap r t (omega arith) (omega arith)
+    let g = half-of n (c .before .before .before .before .before .before .before .before .before .if1 .left) in
+    halves-made (a .w) ((n - n / 2 + 15) / 16 * 16) (a .s .now) (a .d .now) (g .0) (g .1) (st .pre) (c .before .before .before .before .before .before .before .eights2 .ensures) (c .before .before .eights3 .ensures)
 
 pub halves-spec : {M : Type 1} → statement M
 halves-spec =

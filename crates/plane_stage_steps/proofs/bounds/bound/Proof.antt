@@ -1,8 +1,6 @@
 -- One after the other; where the last row is whole, no bit of it is trimmed.
 use Prim.Native.Nat.{_+_, _*_}
-use Rattle.ranges.proofs.Ranges.{ranged-part}
-use Rattle.plane_stage_steps.proofs.Bounding.{bounded, trimmed-part, trimmed-none}
-use native.Mathlib.Omega.{arith}
+use Rattle.plane_stage_steps.proofs.Bounding.{bounds-made, trimmed-part, trimmed-none}
 use borrow.Author.Needs.{needs}
 use Rattle.plane_stage_steps.proofs.bounds.bound.Statement.{statement}
 use Rattle.plane_stage_steps.proofs.bounds.bound.Tie as tie
@@ -57,12 +55,11 @@ same-length c = search needs
 
 returns : tie.Need-returns
 returns c =
-    let a = c .before .before .before .before .before .before .before .before .before .before .before .before .before .before .args in
-    let e = a .n * a .s in
-    let f = ranged-part {a = 0} {e = a .s + 2} {xs = a .d .now} (omega arith) (omega arith) (c .before .before .before .before .before .before .before .before .before .before .before .fill .ensures) in
-    let g = ranged-part {a = e + a .s} {e = e + 2 * a .s + 2} (omega arith) (omega (arith, f .len)) (c .before .before .before .before .before .before .before .fill2 .ensures) in
-    let p = c .before .before .before .pads .ensures in
-    rw (c .if1 .taken) (bounded (a .s) (a .n) 8 (a .outside) (omega arith) (omega arith) f g p (trimmed-none (a .outside) (e + 2) (e + a .s) _))
+    let st = c .before .before .before .before .before .before .before .before .before .before .before .before .before .before in
+    let a = st .args in
+    rw (c .if1 .taken)
+    (bounds-made (a .s) (a .n) 8 (a .outside) (st .pre .0) (st .pre .1) (st .pre .4) (c .before .before .before .before .before .before .before .before .before .before .before .fill .ensures) (c .before .before .before .before .before .before .before .fill2 .ensures) (c .before .before .before .pads .ensures)
+    (λ h g. trimmed-none (a .outside) (a .n * a .s + 2) (a .n * a .s + a .s) _))
 
 add-trim : tie.Need-add-trim
 add-trim c = search needs
@@ -87,12 +84,10 @@ same-length-2 c = search needs
 
 returns-2 : tie.Need-returns-2
 returns-2 c =
-    let a = c .before .before .before .before .before .before .before .before .before .before .before .before .before .before .before .before .before .before .args in
-    let e = a .n * a .s in
-    let f = ranged-part {a = 0} {e = a .s + 2} {xs = a .d .now} (omega arith) (omega arith) (c .before .before .before .before .before .before .before .before .before .before .before .before .before .before .before .fill .ensures) in
-    let g = ranged-part {a = e + a .s} {e = e + 2 * a .s + 2} (omega arith) (omega (arith, f .len)) (c .before .before .before .before .before .before .before .before .before .before .before .fill2 .ensures) in
-    let p = c .before .before .before .before .before .before .before .pads .ensures in
-    bounded (a .s) (a .n) (a .r) (a .outside) (omega arith) (omega arith) f g p (trimmed-part (a .r) (a .outside) (omega arith) (omega (arith, p .len, g .len, f .len)) (c .before .before .trim .ensures))
+    let st = c .before .before .before .before .before .before .before .before .before .before .before .before .before .before .before .before .before .before in
+    let a = st .args in
+    bounds-made (a .s) (a .n) (a .r) (a .outside) (st .pre .0) (st .pre .1) (st .pre .4) (c .before .before .before .before .before .before .before .before .before .before .before .before .before .before .before .fill .ensures) (c .before .before .before .before .before .before .before .before .before .before .before .fill2 .ensures) (c .before .before .before .before .before .before .before .pads .ensures)
+    (λ h g. trimmed-part (a .r) (a .outside) h g (c .before .before .trim .ensures))
 
 pub bound-spec : {M : Type 1} → statement M
 bound-spec =

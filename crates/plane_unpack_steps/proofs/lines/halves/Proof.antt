@@ -1,11 +1,8 @@
 -- The two halves are all cells.
-use native.Mathlib.Omega.{arith}
 use borrow.Author.Needs.{needs}
-use mathlib.Core.Path.{_≡_, ap, _∙_}
-use Prim.Native.Nat.{ℕ, _+_, _-_, _*_, _/_}
-use lib.ListN.{length, getD}
-use Rattle.rows.specs.Cells.{bit}
-use Rattle.ranges.proofs.Ranges.{getD-mid, ranged-ap, ranged-part, ranged-lap}
+use Prim.Native.Nat.{_+_, _-_, _*_, _/_}
+use lib.ListN.{length}
+use Rattle.plane_unpack_steps.proofs.HeldRows.{half-of, halves-made}
 use Rattle.plane_unpack_steps.proofs.lines.halves.Statement.{statement}
 use Rattle.plane_unpack_steps.proofs.lines.halves.Tie as tie
 
@@ -73,15 +70,8 @@ returns-2 : tie.Need-returns-2
 returns-2 c =
     let a = c .before .before .before .before .before .before .before .before .before .before .before .before .args in
     let n = length (a .d .now) in
-    let h = (n - n / 2 + 31) / 32 * 32 in
-    let s = a .s .now in
-    let r = ranged-ap (ranged-part {a = 0} {e = h} {xs = a .d .now} (omega arith) (omega arith) (c .before .before .before .before .before .before .before .cells2 .ensures))
-    (λ k lo hi. let e : k - 0 ≡ k = omega arith in ap (λ (i : ℕ). bit (getD s i 0) (a .j)) e) in
-    let t = ranged-ap (ranged-part {a = n - h} {e = n} (omega arith) (omega (arith, r .len)) (c .before .before .cells3 .ensures))
-    (λ k lo hi.
-    let e : n - h + (k - (n - h)) ≡ k = omega arith in
-    ap (λ (i : ℕ). bit i (a .j)) (getD-mid 0 (n - h) (n - (n - h)) s (k - (n - h)) (omega arith) ∙ ap (λ (i : ℕ). getD s i 0) e)) in
-    ranged-lap r t (omega arith) (omega arith) (omega arith)
+    let g = half-of n (c .before .before .before .before .before .before .before .before .before .if1 .left) in
+    halves-made (a .j) ((n - n / 2 + 31) / 32 * 32) (a .s .now) (a .d .now) (g .0) (g .1) (c .before .before .before .before .before .before .before .cells2 .ensures) (c .before .before .cells3 .ensures)
 
 pub halves-spec : {M : Type 1} → statement M
 halves-spec =

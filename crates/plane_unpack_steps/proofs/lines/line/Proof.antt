@@ -1,11 +1,10 @@
 -- Where no cell of the row is seen, all are filled; else the three runs lie one after the other.
-use borrow.Rule.Slice.PartMut.{putMid, mid-len}
 use mathlib.Core.Path.{sym}
 use Prim.Native.Nat.{_+_, _-_}
 use lib.ListN.{length, getD}
-use Rattle.ranges.proofs.Ranges.{ranged-ap, ranged-part}
+use Rattle.ranges.proofs.Ranges.{ranged-ap}
 use Rattle.rows.specs.Cells.{bit}
-use Rattle.cuts.proofs.CutRows.{between, none-seen, line-is}
+use Rattle.cuts.proofs.CutRows.{between, part-begins, none-seen, three-runs, run-fits}
 use Rattle.plane_unpack_steps.proofs.HeldRows.{part-bits}
 use native.Mathlib.Omega.{arith}
 use borrow.Author.Needs.{needs}
@@ -59,13 +58,13 @@ add-halves : tie.Need-add-halves
 add-halves c = search needs
 
 sub-halves-2 : tie.Need-sub-halves-2
-sub-halves-2 c = omega (arith, between (c .before .before .before .before .before .before .before .edge .ensures) (c .before .before .before .before .before .before .edge2 .ensures) (c .before .before .before .before .before .if1 .left))
+sub-halves-2 c = between (c .before .before .before .before .before .before .before .edge .ensures) (c .before .before .before .before .before .before .edge2 .ensures) (c .before .before .before .before .before .if1 .left) .0
 
 sub-halves-3 : tie.Need-sub-halves-3
-sub-halves-3 c = omega (arith, between (c .before .before .before .before .before .before .before .edge .ensures) (c .before .before .before .before .before .before .edge2 .ensures) (c .before .before .before .before .before .if1 .left))
+sub-halves-3 c = part-begins (c .before .before .before .before .before .before .before .edge .ensures) (c .before .before .before .before .before .before .edge2 .ensures) (c .before .before .before .before .before .if1 .left)
 
 part-halves-start-2 : tie.Need-part-halves-start-2
-part-halves-start-2 c = omega (arith, between (c .before .before .before .before .before .before .before .edge .ensures) (c .before .before .before .before .before .before .edge2 .ensures) (c .before .before .before .before .before .if1 .left))
+part-halves-start-2 c = part-begins (c .before .before .before .before .before .before .before .edge .ensures) (c .before .before .before .before .before .before .edge2 .ensures) (c .before .before .before .before .before .if1 .left)
 
 part-halves-end-2 : tie.Need-part-halves-end-2
 part-halves-end-2 c = search needs
@@ -73,14 +72,9 @@ part-halves-end-2 c = search needs
 halves-requires : tie.Need-halves-requires
 halves-requires c κs =
     let at-if = c .before .before .before .before .before .before in
-    let a = at-if .before .before .before .before .before .args in
-    let p = at-if .before .before .edge in
-    let e = at-if .before .edge2 in
-    let s = between (p .ensures) (e .ensures) (at-if .if1 .left) in
-    let r₁ = ranged-part {a = 0} {e = p .result} {xs = a .d .now} (omega arith) (omega arith) (c .before .before .before .before .fill2 .ensures) in
-    let x = mid-len (p .result) (e .result) (putMid 0 (p .result - 0) (a .d .now) (c .before .before .before .before .fill2 .last .0)) (omega (arith, r₁ .len)) in
-    let y = mid-len (p .result + a .a - 15) (length (a .row .now)) (a .row .now) (omega arith) in
-    (omega (arith, s, x, y), omega arith)
+    let st = at-if .before .before .before .before .before in
+    let a = st .args in
+    (run-fits (a .outside) (a .a) (a .row .now) (a .d .now) (at-if .before .before .edge .ensures) (at-if .before .edge2 .ensures) (at-if .if1 .left) (c .before .before .before .before .fill2 .ensures), st .pre .2)
 
 sub-fill-2 : tie.Need-sub-fill-2
 sub-fill-2 c = search needs
@@ -103,11 +97,11 @@ returns-2 c =
     let a = at-if .before .before .before .before .before .args in
     let p = at-if .before .before .edge in
     let e = at-if .before .edge2 in
-    let r₁ = ranged-part {a = 0} {e = p .result} {xs = a .d .now} (omega arith) (omega arith) (c .before .before .before .before .before .before .before .before .before .before .before .fill2 .ensures) in
-    let s = between (p .ensures) (e .ensures) (at-if .if1 .left) in
-    let r₂ = part-bits (a .j) (p .result + a .a - 15) (a .row .now) {a = p .result} {e = e .result} (omega arith) (omega (arith, r₁ .len)) (omega (arith, s)) (c .before .before .before .before .before .before .halves .ensures) in
-    let r₃ = ranged-part {a = e .result} {e = length (a .d .now)} (omega arith) (omega (arith, r₁ .len, r₂ .len)) (c .before .before .fill3 .ensures) in
-    line-is (a .outside) (length (a .row .now)) (λ i. bit (getD (a .row .now) i 0) (a .j)) (p .ensures) (e .ensures) (at-if .if1 .left) r₁ r₂ r₃
+    let row = a .row .now in
+    three-runs (a .outside) (length row) (a .a) (λ i. bit (getD row i 0) (a .j)) (a .d .now) (p .ensures) (e .ensures) (at-if .if1 .left)
+    (c .before .before .before .before .before .before .before .before .before .before .before .fill2 .ensures)
+    (λ h g u. part-bits (a .j) (p .result + a .a - 15) row {a = p .result} {e = e .result} h g u (c .before .before .before .before .before .before .halves .ensures))
+    (c .before .before .fill3 .ensures)
 
 pub line-spec : {M : Type 1} → statement M
 line-spec =
