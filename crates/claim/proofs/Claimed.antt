@@ -28,7 +28,8 @@ use Rattle.claim.specs.Whole.{Claim, NoPlan, Handed, Run, handedFor, Len
 use Rattle.claim.proofs.Demand1.{demand1}
 use Rattle.claim.proofs.Demand3.{demand3, not-ten}
 
-module _ (op : Operation) (ws : List ℕ) (W H : ℕ) (f i j own : List ℕ) (room : length own ≡ 32) (s : Answer) (i′ j′ : List ℕ) (S : Steps op ws W H f i j own s i′ j′) where
+module _ (op : Operation) (ws : List ℕ) (W H : ℕ) (f i j own : List ℕ) (room : length own ≡ 32) (s : Answer) (i′ j′ : List ℕ)
+    (S : Steps op ws W H f i j own s i′ j′) where
   -- planning refused, and nothing was written; or the operation was called
   abbrev Stopped : Type 0
   Stopped = (stated s ≡ stated (S .answer)) × (i′ ≡ i) × (j′ ≡ j)
@@ -36,7 +37,8 @@ module _ (op : Operation) (ws : List ℕ) (W H : ℕ) (f i j own : List ℕ) (ro
   called : Stopped ⊎ Cleaned op (take (stated (S .answer) .1) (S .own′)) W H f i j s i′ j′
   called = go (T-dec (eqb (stated (S .answer) .0) 0))
     where
-      go : T (eqb (stated (S .answer) .0) 0) ⊎ T (not (eqb (stated (S .answer) .0) 0)) → Stopped ⊎ Cleaned op (take (stated (S .answer) .1) (S .own′)) W H f i j s i′ j′
+      go : T (eqb (stated (S .answer) .0) 0) ⊎ T (not (eqb (stated (S .answer) .0) 0))
+          → Stopped ⊎ Cleaned op (take (stated (S .answer) .1) (S .own′)) W H f i j s i′ j′
       go (inl t) = inr (S .cleans (eqb→eq (stated (S .answer) .0) 0 t))
       go (inr m) = inl (S .stops (λ e. clash (eqb (stated (S .answer) .0) 0) m (eq-eqb e)))
 
@@ -54,7 +56,8 @@ module _ (op : Operation) (ws : List ℕ) (W H : ℕ) (f i j own : List ℕ) (ro
         second-past = ap (drop (gridSize W H)) (k .1);
       }
 
-      ran : Cleaned op (take (stated (S .answer) .1) (S .own′)) W H f i j s i′ j′ → T (eqb (stated s .0) 0) ⊎ T (not (eqb (stated s .0) 0)) → Lent W H i j (stated s) i′ j′
+      ran : Cleaned op (take (stated (S .answer) .1) (S .own′)) W H f i j s i′ j′ → T (eqb (stated s .0) 0) ⊎ T (not (eqb (stated s .0) 0))
+          → Lent W H i j (stated s) i′ j′
       ran c (inl t) =
           let d = demand1 .cleaning op _ W H f i j s i′ j′ c in
           let r = c .done (sym (d .0) ∙ eqb→eq (stated s .0) 0 t) in
@@ -92,7 +95,9 @@ module _ (op : Operation) (ws : List ℕ) (W H : ℕ) (f i j own : List ℕ) (ro
   module _ (e : firstOf (shapeTests ws) ≡ 0) (w : PlanWritten ws own (S .answer) (S .own′)) where
     -- the words that the operation is given
     given : take (stated (S .answer) .1) (S .own′) ≡ planWords (w .offset) (w .stages)
-    given = ap (λ a. take (a .1) (S .own′)) (w .answer) ∙ written-words ws own (S .own′) (accepted ws own (accepts e)) (w .offset) (w .stages) (w .picked .plan) (w .words)
+    given =
+        ap (λ a. take (a .1) (S .own′)) (w .answer)
+        ∙ written-words ws own (S .own′) (accepted ws own (accepts e)) (w .offset) (w .stages) (w .picked .plan) (w .words)
 
     cleaned : Cleaned op (planWords (w .offset) (w .stages)) W H f i j s i′ j′
     cleaned = subst (λ p. Cleaned op p W H f i j s i′ j′) given (S .cleans (ap (λ a. a .0) (w .answer)))
@@ -100,10 +105,12 @@ module _ (op : Operation) (ws : List ℕ) (W H : ℕ) (f i j own : List ℕ) (ro
     -- a frame that is not accepted is refused by its own grounds, since the plan's words pass theirs
     frame-refused : firstOf (workTests W H f i j) ≢ 0 → stated s ≡ refusal (firstOf (workTests W H f i j))
     frame-refused n =
-        let same = rest-append (planTests (planWords (w .offset) (w .stages))) (workTests W H f i j) (plan-clear ws (accepted ws own (accepts e)) (w .offset) (w .stages) (w .picked .plan)) in
+        let same = rest-append (planTests (planWords (w .offset) (w .stages))) (workTests W H f i j)
+        (plan-clear ws (accepted ws own (accepts e)) (w .offset) (w .stages) (w .picked .plan)) in
         cleaned .refused (λ z. n (sym same ∙ z)) .0 ∙ ap refusal same
 
-    handed : (t : Served ws own (S .answer) (S .own′)) → firstOf (workTests W H f i j) ≡ 0 → Handed op ws W H f (t .offset) (t .stages) (stated s) (handedFor (stated s) W H i′ j′)
+    handed : (t : Served ws own (S .answer) (S .own′)) → firstOf (workTests W H f i j) ≡ 0
+        → Handed op ws W H f (t .offset) (t .stages) (stated s) (handedFor (stated s) W H i′ j′)
     handed t v =
         let c = t .frames op W H f i j s i′ j′ v (S .cleans (ap (λ a. a .0) (t .answer))) in
         let h : handedFor (stated s) W H i′ j′ ≡ part (stated s .1) W H i′ j′ = ap (λ a. cond (eqb (a .0) 0) (part (stated s .1) W H i′ j′) []) (c .answer) in

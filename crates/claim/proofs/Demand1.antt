@@ -52,7 +52,9 @@ demand1 = record {
   turning = λ ws out r out′ a. first (turningTests ws out) r (out′ ≡ out) (ListWritten (planPoints ws) out r out′) a (λ w. ground (w .answer));
   planning = plan-first;
   putting = λ W H f i r i′ a. first (putTests W H f i) r (i′ ≡ i) (GridWritten W H (put W H f) i r i′) a (λ w. ground (w .answer));
-  staging = λ erode w W H g i r i′ a. first (stageTests w W H g i) r (i′ ≡ i) (GridWritten W H (once erode free W H (stageMask w) g) i r i′) a (λ q. ground (q .answer));
+  staging = λ erode w W H g i r i′ a. first (stageTests w W H g i) r (i′ ≡ i) (GridWritten W H (once erode free W H (stageMask w) g) i r i′) a
+      (λ q. ground (q .answer));
   counting = λ W H f r a. first (frameTests W H f) r (Unit {0}) (stated r ≡ result (load f)) a (λ e. ground e) .0;
-  cleaning = λ op plan W H f i j r i′ j′ a. first (operationTests plan W H f i j) r ((i′ ≡ i) × (j′ ≡ j)) (Ran op plan W H f i j r i′ j′) a (λ w. ground (w .answer));
+  cleaning = λ op plan W H f i j r i′ j′ a. first (operationTests plan W H f i j) r ((i′ ≡ i) × (j′ ≡ j)) (Ran op plan W H f i j r i′ j′) a
+      (λ w. ground (w .answer));
 }

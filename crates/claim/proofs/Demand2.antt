@@ -16,7 +16,8 @@ use Rattle.plane.proofs.Member.{In-map, In-append}
 use Rattle.words.specs.Ground.{firstOf, stated, both}
 use Rattle.words.proofs.Refusals.{clear, clear-first, clear-last}
 use Rattle.masks.proofs.Sum.{sums-is}
-use Rattle.shapes.specs.Calls.{ListWritten, newTests, shortOutput, movedPoints, movingTests, joinedPoints, joiningTests, summedPoints, summingTests, turningTests}
+use Rattle.shapes.specs.Calls.{ListWritten, newTests, shortOutput, movedPoints, movingTests, joinedPoints, joiningTests, summedPoints, summingTests}
+use Rattle.shapes.specs.Calls.{turningTests}
 use Rattle.shapes.specs.Listed.{listed}
 use Rattle.shapes.specs.Plan.{planTests, planPoints}
 use Rattle.shapes.specs.Shape.{shapeTests, shapePoints, outOfRange}

@@ -69,7 +69,8 @@ unfolding stageTests stage maskCells
 stage-answers D r i′ p = D .staging false 0x50000003 1 1 (1 ∷ replicate 255 0) (replicate 257 7) r i′ p refl .answer
 
 -- two columns moved: the words past the two of the list are as they were
-moved-past : Demand2 → (r : Answer) (out′ : List ℕ) → Moved (0x10000000 ∷ 0x20000005 ∷ []) (pos 2, pos 3) (replicate 18 7) r out′ → stated r .1 ≡ 2 → getD out′ 17 0 ≡ 7
+moved-past : Demand2 → (r : Answer) (out′ : List ℕ) → Moved (0x10000000 ∷ 0x20000005 ∷ []) (pos 2, pos 3) (replicate 18 7) r out′ → stated r .1 ≡ 2
+    → getD out′ 17 0 ≡ 7
 unfolding shapeTests shapePoints outOfRange _+ᵖ_ negᵖ
 moved-past D r out′ p n =
     let past = D .moving (0x10000000 ∷ 0x20000005 ∷ []) (pos 2, pos 3) (replicate 18 7) r out′ p refl .past in

@@ -37,11 +37,13 @@ list-kept ts A out k =
     l = listed A
 
 grid-kept : (ts : List Test) (W H : ℕ) (g i : List ℕ) → T (known ts) → (r : Answer) × (i′ : List ℕ) × Answered ts r (i′ ≡ i) (GridWritten W H g i r i′)
-grid-kept ts W H g i k = can-keep ts k i (λ i′. i′ ≡ i) (λ r i′. GridWritten W H g i r i′) refl (λ _. (Done 0, written W H g i, record { answer = refl; image = refl }))
+grid-kept ts W H g i k =
+    can-keep ts k i (λ i′. i′ ≡ i) (λ r i′. GridWritten W H g i r i′) refl (λ _. (Done 0, written W H g i, record { answer = refl; image = refl }))
 
 -- ---- planning and cleaning
 
-plan-kept : (ws out : List ℕ) → (firstOf (planningTests ws out) ≡ 0 → (¬ Chain subset (ShapeSet ws)) ⊎ ((d : Point) × (ms : List ℕ) × Picked stage (ShapeSet ws) d ms))
+plan-kept : (ws out : List ℕ)
+    → (firstOf (planningTests ws out) ≡ 0 → (¬ Chain subset (ShapeSet ws)) ⊎ ((d : Point) × (ms : List ℕ) × Picked stage (ShapeSet ws) d ms))
     → (r : Answer) × (out′ : List ℕ) × Planned ws out r out′
 unfolding shapeTests
 plan-kept ws out f =
@@ -55,7 +57,8 @@ plan-kept ws out f =
 cleaning-kept : (op : Operation) (plan : List ℕ) (W H : ℕ) (f i j : List ℕ) → (r : Answer) × (i′ : List ℕ) × (j′ : List ℕ) × Cleaned op plan W H f i j r i′ j′
 unfolding planTests workTests
 cleaning-kept op plan W H f i j =
-    let q = can-keep {S = List ℕ × List ℕ} (operationTests plan W H f i j) tt (i, j) (λ s. (s .0 ≡ i) × (s .1 ≡ j)) (λ r s. Ran op plan W H f i j r (s .0) (s .1)) (refl, refl)
+    let q = can-keep {S = List ℕ × List ℕ} (operationTests plan W H f i j) tt (i, j) (λ s. (s .0 ≡ i) × (s .1 ≡ j))
+    (λ r s. Ran op plan W H f i j r (s .0) (s .1)) (refl, refl)
     (λ e. let c = can-clean op plan W H f i j e in (c .0, (c .1, c .2), c .3 .done e)) in
     (q .0, q .1 .0, q .1 .1, q .2)
 
@@ -68,7 +71,8 @@ kept = record {
   turning = λ ws out. list-kept (turningTests ws out) (planPoints ws) out tt;
   planning = plan-kept;
   counting = λ W H f.
-      let q = can-keep {S = Unit {0}} (frameTests W H f) tt tt (λ _. Unit {0}) (λ r _. stated r ≡ result (load f)) tt (λ _. (Done (load f), tt, refl)) in (q .0, q .2);
+      let q = can-keep {S = Unit {0}} (frameTests W H f) tt tt (λ _. Unit {0}) (λ r _. stated r ≡ result (load f)) tt (λ _. (Done (load f), tt, refl)) in
+      (q .0, q .2);
   putting = λ W H f i. grid-kept (putTests W H f i) W H (put W H f) i tt;
   staging = λ erode w W H g i. grid-kept (stageTests w W H g i) W H (once erode free W H (stageMask w) g) i tt;
   cleaning = cleaning-kept;

@@ -39,7 +39,8 @@ use Rattle.cleaning.specs.Operation.{inTurn, lastGrid, Direct}
 use Rattle.cleaning.proofs.Kept.{can-clean}
 use Rattle.cleaning.proofs.Plans.{binary}
 use Rattle.cleaning.proofs.Turn.{turn-direct}
-use Rattle.claim.specs.Measured.{PlannedAs, RefusedTen, CleanedAs, Measured, fourWords, fourInput, fourOutput, threeWords, twoWords, rightWords, eightWords}
+use Rattle.claim.specs.Measured.{PlannedAs, RefusedTen, CleanedAs, Measured, fourWords, fourInput, fourOutput, threeWords, twoWords}
+use Rattle.claim.specs.Measured.{rightWords, eightWords}
 use Rattle.claim.proofs.Demand3.{runs, agrees}
 
 -- ---- planning
@@ -154,7 +155,8 @@ unfolding shapePoints shapeTests _+ᵖ_ negᵖ span wordLines inTurn lastGrid on
 measured = record {
   four = plans-as fourWords origin (3 ∷ 5 ∷ []) refl four;
   four-printed = λ output P.
-      printed-plan fourInput output fourWords (record { words = tt; lines = refl }) P (λ out h. accepts fourWords refl out (omega arith)) origin (3 ∷ 5 ∷ []) four;
+      printed-plan fourInput output fourWords (record { words = tt; lines = refl }) P (λ out h. accepts fourWords refl out (omega arith)) origin
+      (3 ∷ 5 ∷ []) four;
   four-prints = record {
     unreadable = λ none. absurd (none fourWords (record { words = tt; lines = refl }));
     readable = λ ws r. subst (λ w. PrintedFor w fourOutput) (reads-once fourInput fourWords ws (record { words = tt; lines = refl }) r) four-run;

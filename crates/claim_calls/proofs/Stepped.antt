@@ -22,7 +22,8 @@ use Rattle.cleaning.specs.declared.Operation.{Operation}
 use Rattle.claim.specs.Whole.{Steps}
 
 -- the operation that was called is the one that was asked for
-pub called-as : {o op : Operation} {plan : List ℕ} {W H : ℕ} {f i j : List ℕ} {r : Answer} {i′ j′ : List ℕ} → op ≡ o → Cleaned o plan W H f i j r i′ j′ → Cleaned op plan W H f i j r i′ j′
+pub called-as : {o op : Operation} {plan : List ℕ} {W H : ℕ} {f i j : List ℕ} {r : Answer} {i′ j′ : List ℕ} → op ≡ o → Cleaned o plan W H f i j r i′ j′
+    → Cleaned op plan W H f i j r i′ j′
 called-as {plan = plan} {W = W} {H = H} {f = f} {i = i} {j = j} {r = r} {i′ = i′} {j′ = j′} e c = subst (λ o. Cleaned o plan W H f i j r i′ j′) (sym e) c
 
 -- ---- planning's answer
@@ -62,7 +63,8 @@ module _ {ws own own′ : List ℕ} (r : Answer) where
     }
 
     -- planning wrote n words, and the operation was given these
-    pub went-on : {n : ℕ} {s : Answer} {i′ j′ : List ℕ} → r ≡ Done n → Planned ws own r own′ → Cleaned op (take (n - 0) own′) W H f i j s i′ j′ → Steps op ws W H f i j own s i′ j′
+    pub went-on : {n : ℕ} {s : Answer} {i′ j′ : List ℕ} → r ≡ Done n → Planned ws own r own′ → Cleaned op (take (n - 0) own′) W H f i j s i′ j′
+        → Steps op ws W H f i j own s i′ j′
     went-on {n} {s} {i′} {j′} e p c = record {
       answer = r;
       own′ = own′;

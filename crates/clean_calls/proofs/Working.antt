@@ -86,7 +86,8 @@ module _ (plan : List ℕ) (W H : ℕ) (f i j : List ℕ) (z : firstOf (operatio
     runs = let s = place-small plan plan-accepted in record { words = plan-length plan plan-accepted; across = s .0; down = s .1; room = packed-room }
 
     first-shown : Shown W H 0 (put W H f) i₁ j
-    first-shown = subst (λ (g : Point → ℕ). Shows (W + 15) (H + 15) g i₁) (ap (λ l. view free W H l) (low-bits f cells-clean) ∙ sym (put-whole W H f)) (p .shown)
+    first-shown =
+        subst (λ (g : Point → ℕ). Shows (W + 15) (H + 15) g i₁) (ap (λ l. view free W H l) (low-bits f cells-clean) ∙ sym (put-whole W H f)) (p .shown)
 
     -- the stages were run: the last plane shows the last grid, and both images keep their lengths and what is past the grid
     module _ {op : Operation} {n : ℕ} {i₂ j₂ : List ℕ} (e : Ended op plan W H i₁ j n i₂ j₂) where
@@ -123,7 +124,8 @@ module _ (plan : List ℕ) (W H : ℕ) (f i j : List ℕ) (z : firstOf (operatio
         cut-is =
             c .to
             ∙ ap (λ l. l ++ drop (W * H) (resultImage n i₂ j₂))
-            (shown-cut free (W + 15) (H + 15) last (standingImage n i₂ j₂) (e .shown (put W H f) first-shown) W H (distance op (placeX (getD plan 1 0))) (distance op (placeY (getD plan 1 0)))
+            (shown-cut free (W + 15) (H + 15) last (standingImage n i₂ j₂) (e .shown (put W H f) first-shown) W H (distance op (placeX (getD plan 1 0)))
+            (distance op (placeY (getD plan 1 0)))
             ∙ cut-turn op plan W H f last (getD plan 1 0) refl (small .0) (small .1) refl)
 
         size : length turned ≡ W * H

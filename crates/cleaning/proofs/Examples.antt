@@ -112,7 +112,8 @@ opened-part X A p h = opening-part X A p h
 
 -- ---- what an operation leaves: the part, and every byte past the grids
 
-runs : (r : Answer) (i′ j′ : List ℕ) → Cleaned Dilation (0x30000000 ∷ 0x40000f0f ∷ []) 1 1 (1 ∷ []) (replicate 256 7 ++ 5 ∷ []) (replicate 256 8 ++ 6 ∷ []) r i′ j′
+runs : (r : Answer) (i′ j′ : List ℕ)
+    → Cleaned Dilation (0x30000000 ∷ 0x40000f0f ∷ []) 1 1 (1 ∷ []) (replicate 256 7 ++ 5 ∷ []) (replicate 256 8 ++ 6 ∷ []) r i′ j′
     → (stated r ≡ result 0) × (part 0 1 1 i′ j′ ≡ 1 ∷ []) × (length i′ ≡ 257) × (drop 256 i′ ≡ 5 ∷ []) × (length j′ ≡ 257) × (drop 256 j′ ≡ 6 ∷ [])
 unfolding planTests workTests inTurn lastGrid cells valueAt _+ᵖ_ negᵖ
 runs r i′ j′ p = let q = p .done refl in (q .answer, q .handed, q .first-size, q .first-past, q .second-size, q .second-past)

@@ -99,5 +99,9 @@ can-clean op plan W H f i j e = go (T-dec even)
     )
 
     go : T even ⊎ T (not even) → Promise
-    go (inl t) = let k = r ++ drop (W * H) j in make i k (refl, refl) (past j (room .1)) (ap (λ b. hand W H (cond b k i)) (T-true even t) ∙ hand-start W H r j sided size (room .1))
-    go (inr t) = let k = r ++ drop (W * H) i in make k j (past i (room .0)) (refl, refl) (ap (λ b. hand W H (cond b j k)) (T-false even t) ∙ hand-start W H r i sided size (room .0))
+    go (inl t) =
+        let k = r ++ drop (W * H) j in
+        make i k (refl, refl) (past j (room .1)) (ap (λ b. hand W H (cond b k i)) (T-true even t) ∙ hand-start W H r j sided size (room .1))
+    go (inr t) =
+        let k = r ++ drop (W * H) i in
+        make k j (past i (room .0)) (refl, refl) (ap (λ b. hand W H (cond b j k)) (T-false even t) ∙ hand-start W H r i sided size (room .0))

@@ -70,7 +70,8 @@ other-stages (suc k) [] t = tt
 other-stages (suc k) (m ∷ ms) t = other-stages k ms (T-and (stage m) (all stage ms) .0 t .1)
 
 no-stage : (ms : List ℕ) (a b : Cell) → (a ≡ (0, 0)) ⊎ ⊥ → In (sumCells ms) b → In (sumCells ms) (addCell a b)
-no-stage ms a b (inl e) h = subst (In (sumCells ms)) (pair (let z : a .0 ≡ 0 = ap (λ c. c .0) e in omega arith) (let z : a .1 ≡ 0 = ap (λ c. c .1) e in omega arith)) h
+no-stage ms a b (inl e) h =
+    subst (In (sumCells ms)) (pair (let z : a .0 ≡ 0 = ap (λ c. c .0) e in omega arith) (let z : a .1 ≡ 0 = ap (λ c. c .1) e in omega arith)) h
 no-stage ms a b (inr f) h = absurd f
 
 pub both-parts : (k : ℕ) (ms : List ℕ) (a b : Cell) → In (sumCells (take k ms)) a → In (sumCells (drop k ms)) b → In (sumCells ms) (addCell a b)

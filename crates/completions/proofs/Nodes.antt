@@ -11,7 +11,8 @@ use Rattle.rows.specs.Cells.{Cells, Sum, At, AtMask, chosen}
 use Rattle.completions.specs.declared.Here.{Here}
 use Rattle.completions.specs.declared.Child.{Child}
 use Rattle.completions.specs.declared.Branch.{Branch}
-use Rattle.completions.specs.Completing.{Among, None, NoneThrough, Spent, Replaces, numberIn, aimOf, partialSum, Ready, Stepped, Allowed, NoneHere, NoneBefore, NoSum}
+use Rattle.completions.specs.Completing.{Among, None, NoneThrough, Spent, Replaces, numberIn, aimOf, partialSum, Ready, Stepped, Allowed}
+use Rattle.completions.specs.Completing.{NoneHere, NoneBefore, NoSum}
 use Rattle.completions.specs.Pools.{Parts}
 use Rattle.completions.proofs.Loops.{among-more}
 use Rattle.completions.proofs.Stepping.{below-fills}

@@ -132,7 +132,8 @@ module _ (v C R : ℕ) (g : List ℕ) (s t : ℕ) where
       (lt-or-le s 15)
 
   -- a row whose cells are the source's at its height is what is seen there
-  pub seen-line : (c : ℕ → ℕ) → C * R ≤ length g → 15 ≤ t → t - 15 < R → ((i : ℕ) → i < C → c i ≡ getD g ((t - 15) * C + i) 0) → shifted v C c s ≡ seen v C R g s t
+  pub seen-line : (c : ℕ → ℕ) → C * R ≤ length g → 15 ≤ t → t - 15 < R → ((i : ℕ) → i < C → c i ≡ getD g ((t - 15) * C + i) 0)
+      → shifted v C c s ≡ seen v C R g s t
   seen-line c fits k l same = ⊎-elim
       (λ (h : s < 15). shifted-left v C c s h ∙ sym (seen-left h))
       (λ (h : 15 ≤ s). ⊎-elim
@@ -173,7 +174,8 @@ module _ {F : ℕ → ℕ → ℕ} {w : ℕ} where
         let b = mul-le-mul-right {m = r} {n = y} w u in
         s .at (y * w + x) (omega arith) (omega arith) ∙ sym (f x y u ly))
         (lt-or-le y r);
-    past = λ k l. let b = mul-le-mul-right {m = r} {n = h} w le in s .above k (omega (arith, mul-comm w h)) ∙ t .past k (omega (arith, mul-comm w h, mul-comm w r));
+    past = λ k l. let b = mul-le-mul-right {m = r} {n = h} w le in
+        s .above k (omega (arith, mul-comm w h)) ∙ t .past k (omega (arith, mul-comm w h, mul-comm w r));
   }
 
 -- and as a list

@@ -23,5 +23,7 @@ cut-whole v C R l e =
     ap (cells C R) (fun-ext (λ p. ap (view v C R l) (+ᵖ-origin p)))
     ∙ sym (append-nil (cells C R (view v C R l)))
     ∙ ap (λ r. cells C R (view v C R l) ++ r) (sym (drop-of-length-le l {i = C * R} (omega (arith, e))))
-    ∙ sym (laid-is C R (view v C R l) {F = λ x y. getD l (y * C + x) 0} {d = l} {d' = l} (λ x y lx ly. sym (value-in v l C R (omega (arith, e)) x y lx ly)) (omega (arith, e))
+    ∙ sym
+    (laid-is C R (view v C R l) {F = λ x y. getD l (y * C + x) 0} {d = l} {d' = l} (λ x y lx ly. sym (value-in v l C R (omega (arith, e)) x y lx ly))
+    (omega (arith, e))
     (record { len = refl; at = λ x y lx ly. refl; past = λ k u. refl }))

@@ -98,7 +98,8 @@ module _ {i : ℕ} where
     second = top-sum (secondDirection i) (n .second) (m .second);
     middle = top-sum (middleOf i) (n .middle) (m .middle);
     value = value-sum (timesOf i) v _ _ _ _ w _ _ _ _ _ _ _ _ (n .value) (m .value)
-        (two-sums _ _ _ _ _ _ (behind-adds (firstDirection i) (n .x1) (n .y1) (m .x1) (m .y1)) (behind-adds (secondDirection i) (n .x2) (n .y2) (m .x2) (m .y2)))
+        (two-sums _ _ _ _ _ _ (behind-adds (firstDirection i) (n .x1) (n .y1) (m .x1) (m .y1))
+        (behind-adds (secondDirection i) (n .x2) (n .y2) (m .x2) (m .y2)))
         (two-sums _ _ _ _ _ _ (ahead-adds (firstDirection i) (n .x1) (n .y1) (m .x1) (m .y1)) (ahead-adds (secondDirection i) (n .x2) (n .y2) (m .x2) (m .y2)))
         (ahead-adds (middleOf i) (n .x3) (n .y3) (m .x3) (m .y3))
         (behind-adds (middleOf i) (n .x3) (n .y3) (m .x3) (m .y3));

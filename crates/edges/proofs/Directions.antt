@@ -66,7 +66,13 @@ pub record Inside (i : ℕ) : Type 0 where
 
 pub inside : (i : ℕ) → i < 18 → Inside i
 unfolding firstDirection secondDirection middleOf timesOf
-inside i l = record { first = at-most firstDirection 15 18 tt i l; second = at-most secondDirection 15 18 tt i l; middle = at-most middleOf 15 18 tt i l; times = at-most timesOf 4 18 tt i l }
+inside i l =
+    record {
+      first = at-most firstDirection 15 18 tt i l;
+      second = at-most secondDirection 15 18 tt i l;
+      middle = at-most middleOf 15 18 tt i l;
+      times = at-most timesOf 4 18 tt i l;
+    }
 
 -- what two parts make with t times a third
 abbrev made : (ℕ → ℕ) → (ℕ → ℕ) → ℕ → ℕ

@@ -92,7 +92,8 @@ module _ (t a a' a'' b b' b'' r r' r'' : ℕ) where
   high-of : a + a' + t * b'' ≡ b + b' + t * a'' → a + 64 ≡ b + r → b' ≤ 60 → r' ≤ 124 → a'' + 64 ≤ b'' + r'' → r + r' + t * 64 ≤ t * r'' + 248
   high-of e p k q h = omega (arith, scaled-le t a'' b'' r'' h)
 
-  value-of : (v : ℕ) → a + 64 ≡ b + r → a' + 64 ≡ b' + r' → a'' + 64 ≡ b'' + r'' → v + (t * r'' + 128) ≡ r + r' + t * 64 → v + (b + b' + t * a'') ≡ a + a' + t * b''
+  value-of : (v : ℕ) → a + 64 ≡ b + r → a' + 64 ≡ b' + r' → a'' + 64 ≡ b'' + r'' → v + (t * r'' + 128) ≡ r + r' + t * 64
+      → v + (b + b' + t * a'') ≡ a + a' + t * b''
   value-of v p q h e = omega (arith, scaled t a'' b'' r'' h)
 
 -- where there is a cell the greatest value, with its 64 more, is not 0
@@ -181,7 +182,9 @@ module _ (cells : List ℕ) (w : Rows16 cells) (n k : ℕ) (c : Clipped n k) (s 
   }
 
   pub numbered-all : (getD s 0 0 ≡ 0 → ⊥) → (r : List ℕ)
-      → ((i : ℕ) → i < 18 → getD r i 0 + (timesOf i * getD s (middleOf i) 0 + 128) ≡ getD s (firstDirection i) 0 + getD s (secondDirection i) 0 + timesOf i * 64) → Numbered cells n r
+      → ((i : ℕ) → i < 18 → getD r i 0 + (timesOf i * getD s (middleOf i) 0 + 128)
+      ≡ getD s (firstDirection i) 0 + getD s (secondDirection i) 0 + timesOf i * 64)
+      → Numbered cells n r
   numbered-all some r e = record {
     number = λ x y f i l. number-same clips (number-of cells w k s tops some i l (getD r i 0) (e i l));
     none = λ f.

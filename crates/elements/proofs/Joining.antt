@@ -34,7 +34,8 @@ module _ (s : Shape) (w : Rows16 (s .rows)) where
   unfolding _+ᵖ_
   cell-at x y = (coordinate-add x (s .x), coordinate-add y (s .y))
 
-module _ (a b : Shape) (wa : Rows16 (a .rows)) (wb : Rows16 (b .rows)) (SA : Sound a) (SB : Sound b) (x y : ℕ) (ex : x ≡ min (a .x) (b .x)) (ey : y ≡ min (a .y) (b .y)) where
+module _ (a b : Shape) (wa : Rows16 (a .rows)) (wb : Rows16 (b .rows)) (SA : Sound a) (SB : Sound b) (x y : ℕ) (ex : x ≡ min (a .x) (b .x))
+    (ey : y ≡ min (a .y) (b .y)) where
   abbrev A : List Point
   A = pointsOf a ++ pointsOf b
 
@@ -87,19 +88,23 @@ module _ (a b : Shape) (wa : Rows16 (a .rows)) (wb : Rows16 (b .rows)) (SA : Sou
   pub stays-b : T (not (outOfRange A)) → Within (At (b .rows)) (b .x - x) (b .y - y) 15
   stays-b t = stays t b wb right-in (omega arith) (omega arith)
 
-  module _ (ra rb r : List ℕ) (wr : Rows16 r) (RA : Raised (At (a .rows)) (a .x - x) (a .y - y) (At ra)) (RB : Raised (At (b .rows)) (b .x - x) (b .y - y) (At rb))
-      (J : Same (At r) (Either (At ra) (At rb))) (IA : Within (At (a .rows)) (a .x - x) (a .y - y) 15) (IB : Within (At (b .rows)) (b .x - x) (b .y - y) 15) where
+  module _ (ra rb r : List ℕ) (wr : Rows16 r) (RA : Raised (At (a .rows)) (a .x - x) (a .y - y) (At ra))
+      (RB : Raised (At (b .rows)) (b .x - x) (b .y - y) (At rb))
+      (J : Same (At r) (Either (At ra) (At rb))) (IA : Within (At (a .rows)) (a .x - x) (a .y - y) 15)
+      (IB : Within (At (b .rows)) (b .x - x) (b .y - y) 15) where
     abbrev next : Shape
     next = record { fits = true; x = x; y = y; rows = r }
 
     -- the points of one of the two, moved in the window
-    part : (s : Shape) (w : Rows16 (s .rows)) (rs : List ℕ) → Raised (At (s .rows)) (s .x - x) (s .y - y) (At rs) → Within (At (s .rows)) (s .x - x) (s .y - y) 15
+    part : (s : Shape) (w : Rows16 (s .rows)) (rs : List ℕ) → Raised (At (s .rows)) (s .x - x) (s .y - y) (At rs)
+        → Within (At (s .rows)) (s .x - x) (s .y - y) 15
         → x ≤ s .x → y ≤ s .y → Points (At rs) (at x y) ≐ In (pointsOf s)
     part s w rs R I lx ly =
         let p = raised-points (At (s .rows)) (At rs) (s .x - x) (s .y - y) x y R I in
         let ex : s .x - x + x ≡ s .x = omega arith in
         let ey : s .y - y + y ≡ s .y = omega arith in
-        ≐-trans p (subst (λ (d : Point). Points (At (s .rows)) d ≐ In (pointsOf s)) (λ i. (coordinate (sym ex i), coordinate (sym ey i))) (≐-sym (points-of s w)))
+        ≐-trans p
+        (subst (λ (d : Point). Points (At (s .rows)) d ≐ In (pointsOf s)) (λ i. (coordinate (sym ex i), coordinate (sym ey i))) (≐-sym (points-of s w)))
 
     part-a : Points (At ra) (at x y) ≐ In (pointsOf a)
     part-a = part a wa ra RA IA (omega arith) (omega arith)

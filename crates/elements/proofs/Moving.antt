@@ -49,8 +49,10 @@ module _ (s : Shape) (w : Rows16 (s .rows)) (S : Sound s) (d : Point) (vx vy : �
       let r = range-flat A t in
       let l = S .left in
       let u = S .top in (
-        subst (λ z. T (not (tooFar z))) (zero-at (l .x) (coordinate (s .x) +ℤ d .0) (l .at)) (r .0 .near (point (l .x, l .y) +ᵖ (place s +ᵖ d)) (moved-in (l .x) (l .y) (l .cell))),
-        subst (λ z. T (not (tooFar z))) (zero-at (u .y) (coordinate (s .y) +ℤ d .1) (u .at)) (r .1 .near (point (u .x, u .y) +ᵖ (place s +ᵖ d)) (moved-in (u .x) (u .y) (u .cell))),
+        subst (λ z. T (not (tooFar z))) (zero-at (l .x) (coordinate (s .x) +ℤ d .0) (l .at))
+            (r .0 .near (point (l .x, l .y) +ᵖ (place s +ᵖ d)) (moved-in (l .x) (l .y) (l .cell))),
+        subst (λ z. T (not (tooFar z))) (zero-at (u .y) (coordinate (s .y) +ℤ d .1) (u .at))
+            (r .1 .near (point (u .x, u .y) +ᵖ (place s +ᵖ d)) (moved-in (u .x) (u .y) (u .cell))),
       )
     where
       zero-at : (n : ℕ) (z : ℤ) → n ≡ 0 → pos n +ℤ z ≡ z

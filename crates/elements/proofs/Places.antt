@@ -32,7 +32,12 @@ raised-points X Y i j k l r w p = (
   λ h. let c = r .to (h .x) (h .y) (h .cell) in
       let e = c .at-x in
       let f = c .at-y in
-      record { x = c .x1; y = c .y1; cell = c .was; at = sym (same-point (h .x) (h .y) k l (c .x1) (c .y1) (i + k) (j + l) (omega arith) (omega arith)) ∙ h .at },
+      record {
+        x = c .x1;
+        y = c .y1;
+        cell = c .was;
+        at = sym (same-point (h .x) (h .y) k l (c .x1) (c .y1) (i + k) (j + l) (omega arith) (omega arith)) ∙ h .at;
+      },
   λ h. let b = w .all (h .x) (h .y) (h .cell) in
       record {
         x = h .x + i;

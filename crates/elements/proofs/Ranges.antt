@@ -44,7 +44,8 @@ bound-near m h = not-ltb 15 (natAbs (coordinate m)) (⊎-elim (λ d. let e = d .
 
 -- two that are no more than 15 apart
 apart-bound : (m n : ℕ) → T (not (ltZ (pos 15) (pos m -ℤ pos n))) → m ≤ n + 15
-apart-bound m n t = ⊎-elim (λ l. omega arith) (λ l. let b = nltb→le 15 (m - n) (subst (λ z. T (not (ltZ (pos 15) z))) (diff-ge m n l) t) in omega arith) (lt-or-le m n)
+apart-bound m n t =
+    ⊎-elim (λ l. omega arith) (λ l. let b = nltb→le 15 (m - n) (subst (λ z. T (not (ltZ (pos 15) z))) (diff-ge m n l) t) in omega arith) (lt-or-le m n)
 
 bound-apart : (m n : ℕ) → m ≤ n + 15 → T (not (ltZ (pos 15) (pos m -ℤ pos n)))
 bound-apart m n h = ⊎-elim

@@ -44,7 +44,9 @@ module _ (x : ℕ) (d : ℤ) (hx : Fits w32 x) (hd : SFits w32 d) where
 
 -- the point is moved as its biased coordinate is
 pub moved-at : (x : ℕ) (d z : ℤ) → pos x +ℤ d ≡ z → coordinate x +ℤ d ≡ z -ℤ pos 15
-moved-at x d z e = +ℤ-assoc (pos x) (negℤ (pos 15)) d ∙ ap (λ w. pos x +ℤ w) (+ℤ-comm (negℤ (pos 15)) d) ∙ sym (+ℤ-assoc (pos x) d (negℤ (pos 15))) ∙ ap (λ w. w -ℤ pos 15) e
+moved-at x d z e =
+    +ℤ-assoc (pos x) (negℤ (pos 15)) d ∙ ap (λ w. pos x +ℤ w) (+ℤ-comm (negℤ (pos 15)) d) ∙ sym (+ℤ-assoc (pos x) d (negℤ (pos 15)))
+    ∙ ap (λ w. w -ℤ pos 15) e
 
 -- what is below 0, or above 30, is too far
 below-far : (x n : ℕ) (d : ℤ) → pos x +ℤ d ≡ negsuc n → T (tooFar (coordinate x +ℤ d))
@@ -87,5 +89,6 @@ between (negsuc n) s t = absurd (subst T s tt)
 pub along-near : (x : ℕ) (d : ℤ) → Between (pos x +ℤ d) → Along x d (natAbs (pos x +ℤ d))
 along-near x d b = record {
   near = λ _. ap pos (ap natAbs (b .is)) ∙ sym (b .is);
-  far = λ t. absurd (clash (tooFar (coordinate x +ℤ d)) (subst (λ z. T (not (tooFar z))) (sym (moved-at x d (pos (b .n)) (b .is))) (bound-near (b .n) (b .le))) t);
+  far = λ t. absurd
+      (clash (tooFar (coordinate x +ℤ d)) (subst (λ z. T (not (tooFar z))) (sym (moved-at x d (pos (b .n)) (b .is))) (bound-near (b .n) (b .le))) t);
 }

@@ -75,7 +75,8 @@ pub some : {number : ℕ → ℕ → ℕ} {X : Cells} {n : ℕ} → Least number
 some l = record { x = l .x; y = l .y; cell = l .cell }
 
 -- whether a value is a shape, by what its cells show
-pub is-sound : (s : Shape) → Rows16 (s .rows) → s .fits ≡ true → FirstOf row (At (s .rows)) 0 → FirstOf column (At (s .rows)) 0 → Within (At (s .rows)) (s .x) (s .y) 30 → Sound s
+pub is-sound : (s : Shape) → Rows16 (s .rows) → s .fits ≡ true → FirstOf row (At (s .rows)) 0 → FirstOf column (At (s .rows)) 0
+    → Within (At (s .rows)) (s .x) (s .y) 30 → Sound s
 is-sound s w f r c h = record { fits = f; left = least c; top = least r; range = cells-sound s w (h .all) }
   where
     least : {number : ℕ → ℕ → ℕ} → FirstOf number (At (s .rows)) 0 → Least number (At (s .rows)) 0

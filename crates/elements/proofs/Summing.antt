@@ -35,10 +35,13 @@ abbrev fifteen : ℤ
 fifteen = negℤ (pos 15)
 
 pub two-add : (m n k : ℕ) → m + n ≡ k + 15 → coordinate m +ℤ coordinate n ≡ coordinate k
-two-add m n k e = +ℤ-swap (pos m) fifteen (pos n) fifteen ∙ ap (λ z. pos z +ℤ (fifteen +ℤ fifteen)) e ∙ +ℤ-swap (pos k) (pos 15) fifteen fifteen ∙ +ℤ-idr (coordinate k)
+two-add m n k e =
+    +ℤ-swap (pos m) fifteen (pos n) fifteen ∙ ap (λ z. pos z +ℤ (fifteen +ℤ fifteen)) e ∙ +ℤ-swap (pos k) (pos 15) fifteen fifteen ∙ +ℤ-idr (coordinate k)
 
 two-far : (m n : ℕ) → m + n < 15 → T (tooFar (coordinate m +ℤ coordinate n))
-two-far m n l = subst (λ z. T (tooFar z)) (sym (+ℤ-swap (pos m) fifteen (pos n) fifteen ∙ diff-lt (m + n) 30 (omega arith))) (lt→ltb 15 (suc (30 - suc (m + n))) (omega arith))
+two-far m n l =
+    subst (λ z. T (tooFar z)) (sym (+ℤ-swap (pos m) fifteen (pos n) fifteen ∙ diff-lt (m + n) 30 (omega arith)))
+    (lt→ltb 15 (suc (30 - suc (m + n))) (omega arith))
 
 module _ (a b : Shape) (wa : Rows16 (a .rows)) (wb : Rows16 (b .rows)) (SA : Sound a) (SB : Sound b) where
   abbrev A : List Point
@@ -155,8 +158,22 @@ module _ (a b : Shape) (wa : Rows16 (a .rows)) (wb : Rows16 (b .rows)) (SA : Sou
           let f′ = q′ .at in
           record {
             fits = refl;
-            left = record { x = p .x + q .x; y = p .y + q .y; cell = add (p .x) (p .y) (q .x) (q .y) (p .cell) (q .cell); at = omega arith; all = λ u v h. zero-le };
-            top = record { x = p′ .x + q′ .x; y = p′ .y + q′ .y; cell = add (p′ .x) (p′ .y) (q′ .x) (q′ .y) (p′ .cell) (q′ .cell); at = omega arith; all = λ u v h. zero-le };
+            left =
+                record {
+                  x = p .x + q .x;
+                  y = p .y + q .y;
+                  cell = add (p .x) (p .y) (q .x) (q .y) (p .cell) (q .cell);
+                  at = omega arith;
+                  all = λ u v h. zero-le;
+                };
+            top =
+                record {
+                  x = p′ .x + q′ .x;
+                  y = p′ .y + q′ .y;
+                  cell = add (p′ .x) (p′ .y) (q′ .x) (q′ .y) (p′ .cell) (q′ .cell);
+                  at = omega arith;
+                  all = λ u v h. zero-le;
+                };
             range = t;
           }
 

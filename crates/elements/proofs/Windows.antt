@@ -94,7 +94,8 @@ module _ (s : Shape) (w : Rows16 (s .rows)) (S : Sound s) where
     one y-of (s .y) (λ p h. let c = points-of s w p .0 h in (c .y, ap y-of (sym (c .at)))) (start-y .0) (start-y .1) (start-y .2) t,
   )
     where
-      one : (axis : Point → ℤ) (k : ℕ) → ((p : Point) → In (pointsOf s) p → (n : ℕ) × (axis p ≡ pos n +ℤ coordinate k)) → (q : Point) → In (pointsOf s) q → axis q ≡ coordinate k
+      one : (axis : Point → ℤ) (k : ℕ) → ((p : Point) → In (pointsOf s) p → (n : ℕ) × (axis p ≡ pos n +ℤ coordinate k)) → (q : Point) → In (pointsOf s) q
+          → axis q ≡ coordinate k
           → least (map axis (pointsOf s)) ≡ coordinate k
       one axis k f q h e =
           least-at (map axis (pointsOf s)) (coordinate k) (In-map axis (pointsOf s) (coordinate k) .1 (q, h, sym e)) (λ z g.
@@ -105,21 +106,30 @@ module _ (s : Shape) (w : Rows16 (s .rows)) (S : Sound s) where
       start-x : (q : Point) × In (pointsOf s) q × (x-of q ≡ coordinate (s .x))
       start-x =
           let l = S .left in
-          let q = point (l .x, l .y) +ᵖ place s in
-          (q, points-of s w q .1 (record { x = l .x; y = l .y; cell = l .cell; at = refl }), ap (λ n. pos n +ℤ coordinate (s .x)) (l .at) ∙ +ℤ-idl (coordinate (s .x)))
+          let q = point (l .x, l .y) +ᵖ place s in (
+            q,
+            points-of s w q .1 (record { x = l .x; y = l .y; cell = l .cell; at = refl }),
+            ap (λ n. pos n +ℤ coordinate (s .x)) (l .at)
+                ∙ +ℤ-idl (coordinate (s .x)),
+          )
 
       start-y : (q : Point) × In (pointsOf s) q × (y-of q ≡ coordinate (s .y))
       start-y =
           let l = S .top in
-          let q = point (l .x, l .y) +ᵖ place s in
-          (q, points-of s w q .1 (record { x = l .x; y = l .y; cell = l .cell; at = refl }), ap (λ n. pos n +ℤ coordinate (s .y)) (l .at) ∙ +ℤ-idl (coordinate (s .y)))
+          let q = point (l .x, l .y) +ᵖ place s in (
+            q,
+            points-of s w q .1 (record { x = l .x; y = l .y; cell = l .cell; at = refl }),
+            ap (λ n. pos n +ℤ coordinate (s .y)) (l .at)
+                ∙ +ℤ-idl (coordinate (s .y)),
+          )
 
   anchor-is : (15 - s .x, 15 - s .y) ≡ leastAnchor (pointsOf s)
   unfolding leastAnchor
   anchor-is = (λ t. (sym (below-at (s .x)) t, sym (below-at (s .y)) t)) ∙ ap (λ c. (below (c .0), below (c .1))) (sym corner-is)
 
   -- the window has the least anchor, and stands for the shape's points
-  pub into-window : (r : Window) → Rows16 (r .rows) → InWindow s r → ((r .ax, r .ay) ≡ leastAnchor (pointsOf s)) × (In (windowPoints (r .rows) (r .ax, r .ay)) ≐ In (pointsOf s))
+  pub into-window : (r : Window) → Rows16 (r .rows) → InWindow s r
+      → ((r .ax, r .ay) ≡ leastAnchor (pointsOf s)) × (In (windowPoints (r .rows) (r .ax, r .ay)) ≐ In (pointsOf s))
   into-window r wr I = (anchor-at ∙ anchor-is, subst (λ (a : Cell). In (windowPoints (r .rows) a) ≐ In (pointsOf s)) (sym anchor-at) points-are)
     where
       anchor-at : _≡_ {A = Cell} (r .ax, r .ay) (15 - s .x, 15 - s .y)

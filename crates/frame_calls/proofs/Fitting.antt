@@ -32,7 +32,14 @@ module _ (W H : ℕ) (s : badSize W H ≡ false) where
   put-fits : (n k : ℕ) → W * H ≤ n → gridSize W H ≤ k → T (cutFits (W + 15) (H + 15) W H 15 15 n k)
   put-fits n k h l =
       let b = sides W H s in
-      rw (le-leb (W + 15) 65535 (omega arith), le-leb (H + 15) 65535 (omega arith), le-leb W 65535 (omega arith), le-leb H 65535 (omega arith), le-leb (W * H) n h, le-leb (gridSize W H) k l) tt
+      rw (
+        le-leb (W + 15) 65535 (omega arith),
+        le-leb (H + 15) 65535 (omega arith),
+        le-leb W 65535 (omega arith),
+        le-leb H 65535 (omega arith),
+        le-leb (W * H) n h,
+        le-leb (gridSize W H) k l,
+      ) tt
 
 -- ---- putting
 
@@ -59,9 +66,15 @@ module _ (w W H : ℕ) (g i : List ℕ) (z : firstOf (stageTests w W H g i) ≡ 
   ready =
       let c = clear (stageTests w W H g i) tt z in
       let l = not-or (shortImage W H g) (shortImage W H i) .0 (c .1 .1 .1 .1 .1 .0) in
-      record { sides = T-false (badSize W H) (c .1 .1 .1 .0); cells = c .1 .1 .1 .1 .0; read = nltb→le (length g) (gridSize W H) (l .0); room = nltb→le (length i) (gridSize W H) (l .1) }
+      record {
+        sides = T-false (badSize W H) (c .1 .1 .1 .0);
+        cells = c .1 .1 .1 .1 .0;
+        read = nltb→le (length g) (gridSize W H) (l .0);
+        room = nltb→le (length i) (gridSize W H) (l .1);
+      }
 
-  pub stage-done : (erode : Bool) (i′ : List ℕ) (r : Answer) → stated r ≡ result 0 → i′ ≡ written W H (once erode free W H (stageMask w) g) i → Staged erode w W H g i r i′
+  pub stage-done : (erode : Bool) (i′ : List ℕ) (r : Answer) → stated r ≡ result 0 → i′ ≡ written W H (once erode free W H (stageMask w) g) i
+      → Staged erode w W H g i r i′
   stage-done erode i′ r a e = promised-done (stageTests w W H g i) z (record { answer = a; image = e })
 
 -- the grid is packed into a plane in the image i, taken through the stage into the plane that was p₀, and unpacked over all of the first plane
@@ -104,7 +117,9 @@ module _ (erode : Bool) (W H m : ℕ) {g i : List ℕ} (r : StageReady W H g i) 
 
     module _ {p₀ p : List ℕ} (b : PlaneTaken erode free C R m i₁ p₀ p) where
       pub unpacks : planeSize C R ≤ length p₀ → T (unpackFits C R C R 15 15 (length p) (length i₁))
-      unpacks l = grid-unpack W H (size .0) (size .1) C R 15 15 (length p) (length i₁) (omega arith) (omega arith) (omega arith) (omega arith) (omega (arith, b .kept .len)) (omega (arith, a .kept .len, r .room))
+      unpacks l =
+          grid-unpack W H (size .0) (size .1) C R 15 15 (length p) (length i₁) (omega arith) (omega arith) (omega arith) (omega arith)
+          (omega (arith, b .kept .len)) (omega (arith, a .kept .len, r .room))
 
       -- the second plane shows the grid after the stage
       shown : Shows C R (grid free W H after) p

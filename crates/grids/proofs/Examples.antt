@@ -51,7 +51,8 @@ work-order : (firstOf (workTests 0 1 (2 ∷ []) [] []) ≡ 11) × (firstOf (work
 unfolding workTests
 work-order = (refl, refl, refl)
 
-work-images : (firstOf (workTests 1 1 (1 ∷ []) (replicate 255 7) (replicate 256 7)) ≡ 14) × (firstOf (workTests 1 1 (1 ∷ []) (replicate 256 7) (replicate 255 7)) ≡ 14)
+work-images : (firstOf (workTests 1 1 (1 ∷ []) (replicate 255 7) (replicate 256 7)) ≡ 14)
+    × (firstOf (workTests 1 1 (1 ∷ []) (replicate 256 7) (replicate 255 7)) ≡ 14)
 unfolding workTests
 work-images = (refl, refl)
 
@@ -172,7 +173,8 @@ counts-not : (r : Answer) → LoadCounted 2 1 (1 ∷ 3 ∷ []) r → stated r �
 unfolding frameTests
 counts-not r p = p .refused (λ e. let n : _≡_ {A = ℕ} 13 0 = e in omega arith) .0
 
-puts : (r : Answer) (i′ : List ℕ) → FramePut 1 2 (0 ∷ 1 ∷ []) (replicate 273 7) r i′ → (stated r ≡ result 0) × (i′ ≡ replicate 16 0 ++ 1 ∷ replicate 255 0 ++ 7 ∷ [])
+puts : (r : Answer) (i′ : List ℕ) → FramePut 1 2 (0 ∷ 1 ∷ []) (replicate 273 7) r i′
+    → (stated r ≡ result 0) × (i′ ≡ replicate 16 0 ++ 1 ∷ replicate 255 0 ++ 7 ∷ [])
 unfolding putTests put cells valueAt
 puts r i′ p = (p .done refl .answer, p .done refl .image)
 

@@ -82,7 +82,9 @@ module _ {A : Type 0} (pick : A → A → A) (e : A) (L : Semilattice pick) wher
           ∙ ap (λ x. x -ᵖ b) (swap (p -ᵖ (a +ᵖ b)) a b ∙ ap (λ x. x -ᵖ a) (subᵖ-cancel p (a +ᵖ b)))
         where
           swap : (q a b : Point) → q +ᵖ a -ᵖ a +ᵖ b ≡ q +ᵖ (a +ᵖ b) -ᵖ a
-          swap q a b = +ᵖ-assoc (q +ᵖ a) (negᵖ a) b ∙ ap (λ x. q +ᵖ a +ᵖ x) (+ᵖ-comm (negᵖ a) b) ∙ sym (+ᵖ-assoc (q +ᵖ a) b (negᵖ a)) ∙ ap (λ x. x -ᵖ a) (+ᵖ-assoc q a b)
+          swap q a b =
+              +ᵖ-assoc (q +ᵖ a) (negᵖ a) b ∙ ap (λ x. q +ᵖ a +ᵖ x) (+ᵖ-comm (negᵖ a) b) ∙ sym (+ᵖ-assoc (q +ᵖ a) b (negᵖ a))
+              ∙ ap (λ x. x -ᵖ a) (+ᵖ-assoc q a b)
 
   pub eroded-sums : (P Q : List Point) (f : Point → A) (p : Point) → eroded pick e (sums P Q) f p ≡ eroded pick e P (eroded pick e Q f) p
   eroded-sums P Q f p =

@@ -50,7 +50,8 @@ module _ {A : Type 0} where
   getD-rows g W b zero x y v h k = absurd (not-suc-le-zero k)
   getD-rows g W b (suc H) x zero v h k =
       ap (λ n. getD (map (λ i. g i b) (upTo W) ++ flat (λ j. map (λ i. g i j) (upTo W)) (countFrom (suc b) H)) n v) first
-      ∙ List·getD-append (map (λ i. g i b) (upTo W)) (flat (λ j. map (λ i. g i j) (upTo W)) (countFrom (suc b) H)) v x (subst (λ n. x < n) (sym (length-map (upTo W) (λ i. g i b) ∙ length-count 0 W)) h)
+      ∙ List·getD-append (map (λ i. g i b) (upTo W)) (flat (λ j. map (λ i. g i j) (upTo W)) (countFrom (suc b) H)) v x
+      (subst (λ n. x < n) (sym (length-map (upTo W) (λ i. g i b) ∙ length-count 0 W)) h)
       ∙ getD-count (λ i. g i b) 0 W x v h ∙ ap₂ g (omega arith) (omega arith)
     where
       first : 0 * W + x ≡ x

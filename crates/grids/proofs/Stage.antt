@@ -133,15 +133,18 @@ once-cell erode v W H m g x y h k =
 -- where the grid's bytes, read as far as its image goes, are at most 1, so is every cell of it on the plane
 pub grid-binary : (v W H : ℕ) (g : List ℕ) → v ≤ 1 → T (not (badCell (take (gridSize W H) g))) → Binary (grid v W H g)
 grid-binary v W H g low clean = view-binary v (W + 15) (H + 15) g low (λ i h.
-    subst (λ n. n ≤ 1) (getD-take (gridSize W H) g i v (subst (λ n. i < n) (mul-comm (H + 15) (W + 15)) h)) (bytes-binary v low (take (gridSize W H) g) clean i))
+    subst (λ n. n ≤ 1) (getD-take (gridSize W H) g i v (subst (λ n. i < n) (mul-comm (H + 15) (W + 15)) h))
+    (bytes-binary v low (take (gridSize W H) g) clean i))
 
 module _ (v W H m : ℕ) (g : List ℕ) (low : v ≤ 1) (clean : T (not (badCell (take (gridSize W H) g)))) where
-  pub once-dilation : (x y : ℕ) → x < W + 15 → y < H + 15 → (getD (once false v W H m g) (y * (W + 15) + x) 0 ≡ 1) ↔ (occupied (grid v W H g) ⊕ Mask m) (pos x, pos y)
+  pub once-dilation : (x y : ℕ) → x < W + 15 → y < H + 15
+      → (getD (once false v W H m g) (y * (W + 15) + x) 0 ≡ 1) ↔ (occupied (grid v W H g) ⊕ Mask m) (pos x, pos y)
   once-dilation x y h k =
       subst (λ n. (n ≡ 1) ↔ (occupied (grid v W H g) ⊕ Mask m) (pos x, pos y)) (sym (once-cell false v W H m g x y h k))
       (D-set (maskPoints m) (grid v W H g) (grid-binary v W H g low clean) (pos x, pos y))
 
-  pub once-erosion : (x y : ℕ) → x < W + 15 → y < H + 15 → (getD (once true v W H m g) (y * (W + 15) + x) 0 ≡ 1) ↔ (occupied (grid v W H g) ⊖ Mask m) (pos x, pos y)
+  pub once-erosion : (x y : ℕ) → x < W + 15 → y < H + 15
+      → (getD (once true v W H m g) (y * (W + 15) + x) 0 ≡ 1) ↔ (occupied (grid v W H g) ⊖ Mask m) (pos x, pos y)
   once-erosion x y h k =
       subst (λ n. (n ≡ 1) ↔ (occupied (grid v W H g) ⊖ Mask m) (pos x, pos y)) (sym (once-cell true v W H m g x y h k))
       (E-set (maskPoints m) (grid v W H g) (grid-binary v W H g low clean) (pos x, pos y))

@@ -42,8 +42,10 @@ row-cells : (y c x v : ℕ) → CellsOf (rowCells y c) x v ↔ ((v ≡ y) × ((x
 row-cells y c x v = (
   λ h. let r = In-map cell (bits 16 c) (x, v) .0 h in
       let k = In-keep (λ i. eqb (bit c i) 1) (upTo 16) (r .0) .0 (r .1) in
-      let e : x ≡ r .0 = ap (λ (p : Cell). p .0) (r .2) in
-      (ap (λ (p : Cell). p .1) (r .2), (subst (λ n. n < 16) (sym e) (upTo-In 16 (r .0) (k .0)), subst (λ n. bit c n ≡ 1) (sym e) (eqb→eq (bit c (r .0)) 1 (k .1)))),
+      let e : x ≡ r .0 = ap (λ (p : Cell). p .0) (r .2) in (
+        ap (λ (p : Cell). p .1) (r .2),
+        (subst (λ n. n < 16) (sym e) (upTo-In 16 (r .0) (k .0)), subst (λ n. bit c n ≡ 1) (sym e) (eqb→eq (bit c (r .0)) 1 (k .1))),
+      ),
   λ h. In-map cell (bits 16 c) (x, v) .1
       (x, In-keep (λ i. eqb (bit c i) 1) (upTo 16) x .1 (In-upTo 16 x (h .1 .0), eq-eqb (h .1 .1)), ap (λ (n : ℕ). cell-at n) (h .0)),
 )

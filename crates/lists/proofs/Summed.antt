@@ -67,10 +67,12 @@ sum-origin ws i l = subst (λ ms. SumRows ms (1 ∷ replicate 15 0)) (sym (flat-
   from = λ x y o u v. subst (λ k. At (1 ∷ replicate 15 0) k y) (sym (o .at-x)) (subst (λ k. At (1 ∷ replicate 15 0) 0 k) (sym (o .at-y)) refl);
 })
 
-pub sum-more : (ws : List ℕ) (i j : ℕ) (r s : List ℕ) → j + 1 ≡ i → j < length ws → SumRows (masksFrom i ws) r → WithStage r (getD ws j 0) s → SumRows (masksFrom j ws) s
+pub sum-more : (ws : List ℕ) (i j : ℕ) (r s : List ℕ) → j + 1 ≡ i → j < length ws → SumRows (masksFrom i ws) r → WithStage r (getD ws j 0) s
+    → SumRows (masksFrom j ws) s
 unfolding masksFrom
 sum-more ws i j r s e l p o =
-    subst (λ ms. SumRows ms s) (sym (flat-step (λ w. maskIn (wordOf w)) ws j l)) (o .added (masksFrom (j + 1) ws) (subst (λ k. SumRows (masksFrom k ws) r) (sym e) p))
+    subst (λ ms. SumRows ms s) (sym (flat-step (λ w. maskIn (wordOf w)) ws j l))
+    (o .added (masksFrom (j + 1) ws) (subst (λ k. SumRows (masksFrom k ws) r) (sym e) p))
 
 -- the loop ends at the third word, or where a shorter list ends
 pub sum-end : (ws : List ℕ) (i : ℕ) (r : List ℕ) → i ≤ 2 → min 2 (length ws) ≤ i → SumRows (masksFrom i ws) r → SumRows (heldMasks ws) r

@@ -91,7 +91,8 @@ module _ (ax ay : ℕ) (rows out : List ℕ) where
 
   module _ (y n n′ : ℕ) (now now′ : List ℕ) (p : Writing ax ay rows out y n now) where
     -- a row with a column is a word more
-    pub writing-row : y < 16 → 17 ≤ length out → 0 < getD rows y 0 → now′ ≡ set now n (rowWord y (getD rows y 0)) → n′ ≡ n + 1 → Writing ax ay rows out (y + 1) n′ now′
+    pub writing-row : y < 16 → 17 ≤ length out → 0 < getD rows y 0 → now′ ≡ set now n (rowWord y (getD rows y 0)) → n′ ≡ n + 1
+        → Writing ax ay rows out (y + 1) n′ now′
     writing-row l room h e f =
         let few = p .few in
         let fits : length (listTo ax ay rows y) < length out = omega (arith, p .so-far .count) in

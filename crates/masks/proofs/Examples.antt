@@ -44,7 +44,8 @@ rising = (refl, refl)
 order : (before (7 ∷ []) (3 ∷ 3 ∷ []) ≡ true) × (before (3 ∷ 5 ∷ []) (3 ∷ 7 ∷ []) ≡ true) × (before (3 ∷ 9 ∷ []) (5 ∷ 5 ∷ []) ≡ true)
 order = (refl, refl, refl)
 
-order-strict : (before [] [] ≡ false) × (before (3 ∷ 5 ∷ []) (3 ∷ 5 ∷ []) ≡ false) × (before (5 ∷ 5 ∷ []) (3 ∷ 9 ∷ []) ≡ false) × (before (3 ∷ 3 ∷ []) (7 ∷ []) ≡ false)
+order-strict : (before [] [] ≡ false) × (before (3 ∷ 5 ∷ []) (3 ∷ 5 ∷ []) ≡ false) × (before (5 ∷ 5 ∷ []) (3 ∷ 9 ∷ []) ≡ false)
+    × (before (3 ∷ 3 ∷ []) (7 ∷ []) ≡ false)
 order-strict = (refl, refl, refl, refl)
 
 -- all nine bits make a subset of the square

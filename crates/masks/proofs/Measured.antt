@@ -21,7 +21,9 @@ four = picked (In (map point fourCells)) fourCells origin (3 ∷ 5 ∷ []) (plac
 
 pub four-other : PlanOf stage (In (map point fourCells)) origin (3 ∷ 7 ∷ [])
 unfolding _+ᵖ_ same mem stage sumCells cellSums
-four-other = cells-plan (In (map point fourCells)) fourCells origin (3 ∷ 7 ∷ []) (placed (map point fourCells) fourCells origin refl tt tt) tt tt (same-is fourCells (sumCells (3 ∷ 7 ∷ [])) .0 tt)
+four-other =
+    cells-plan (In (map point fourCells)) fourCells origin (3 ∷ 7 ∷ []) (placed (map point fourCells) fourCells origin refl tt tt) tt tt
+    (same-is fourCells (sumCells (3 ∷ 7 ∷ [])) .0 tt)
 
 pub four-order : (before (3 ∷ 5 ∷ []) (3 ∷ 7 ∷ []) ≡ true) × (before (3 ∷ 7 ∷ []) (3 ∷ 5 ∷ []) ≡ false)
 four-order = (refl, refl)

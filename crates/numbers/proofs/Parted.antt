@@ -35,7 +35,8 @@ starts n W H i j = go (badSize W H || ltb (length (resultImage n i j)) (W * H)) 
     go true e = refl
     go false e =
         ap (λ k. take k (resultImage n i j))
-        (length-take-le (W * H) (resultImage n i j) (ltb-false (length (resultImage n i j)) (W * H) (or-none (badSize W H) (ltb (length (resultImage n i j)) (W * H)) e .1)))
+        (length-take-le (W * H) (resultImage n i j)
+        (ltb-false (length (resultImage n i j)) (W * H) (or-none (badSize W H) (ltb (length (resultImage n i j)) (W * H)) e .1)))
 
 pub found : (n W H : ℕ) (i j : List ℕ) {a r : ℤ} {k : ℕ} {p : List ℕ} → pos n ≡ a → k ≡ imageOf (pos n) → p ≡ part n W H i j → r ≡ pos (length p)
     → PartFound a W H i j r k
@@ -63,4 +64,5 @@ ran-fits (negsuc n) t f = absurd (subst T t tt)
 
 -- the same part, for an answer and with a number that are the same
 pub found-for : {a b : ℤ} {W H : ℕ} {i j : List ℕ} {r s : ℤ} {k : ℕ} → a ≡ b → s ≡ r → PartFound a W H i j r k → PartFound b W H i j s k
-found-for {a = a} {W = W} {H = H} {i = i} {j = j} {r = r} {s = s} {k = k} e f p = subst (λ n. PartFound n W H i j s k) e (subst (λ n. PartFound a W H i j n k) (sym f) p)
+found-for {a = a} {W = W} {H = H} {i = i} {j = j} {r = r} {s = s} {k = k} e f p =
+    subst (λ n. PartFound n W H i j s k) e (subst (λ n. PartFound a W H i j n k) (sym f) p)

@@ -15,7 +15,8 @@ use Rattle.planning.specs.Planning.{planningTests}
 
 module _ {Refuses : ℕ → Type 0} {Unchanged Work : Type 0} (ws out : List ℕ) (z : firstOf (shapeTests ws) ≡ 0) where
   pub too-short : length out < 32 → Refuses 9 → Unchanged → Promised (planningTests ws out) Refuses Unchanged Work
-  too-short h s u = promised-rest (shapeTests ws) _ (shape-clear ws z) (promised-refusal _ (λ e. let q = sym nine ∙ e in omega arith) (subst Refuses (sym nine) s) u)
+  too-short h s u =
+      promised-rest (shapeTests ws) _ (shape-clear ws z) (promised-refusal _ (λ e. let q = sym nine ∙ e in omega arith) (subst Refuses (sym nine) s) u)
     where
       nine : firstOf ((9, shortOutput 32 out) ∷ []) ≡ 9
       nine = ap (λ b. cond b 9 0) (lt-ltb (length out) 32 h)

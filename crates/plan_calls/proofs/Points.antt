@@ -68,7 +68,11 @@ module _ (A : List Point) (s : Shape) (W : Rows16 (s .rows)) (F : StandsFor A s)
 
   -- any plan has the place as its offset, and its stages sum to the cells
   sums-of : (e : Point) (ns : List ℕ) → PlanOf stage (In A) e ns → SumsTo stage (At (s .rows)) ns
-  sums-of e ns P = record { masks = P .stages; sum = same-points (At (s .rows)) (AtSum ns) (place s) (≐-trans (≐-sym placed) (≐-trans whole (≐-sym (sum-at ns (place s))))) }
+  sums-of e ns P =
+      record {
+        masks = P .stages;
+        sum = same-points (At (s .rows)) (AtSum ns) (place s) (≐-trans (≐-sym placed) (≐-trans whole (≐-sym (sum-at ns (place s)))));
+      }
     where
       at : e ≡ place s
       at = forced A e ns P ∙ sym (corner-same (pointsOf s) A (F .points)) ∙ corner-is s W (F .sound)
@@ -94,7 +98,9 @@ module _ (A : List Point) (s : Shape) (W : Rows16 (s .rows)) (F : StandsFor A s)
       (omega (arith, b .2), omega (arith, b .3))
 
   words-are : (ms : List ℕ) → wordsOf (s .x) (s .y) ms ≡ planWords (place s) ms
-  words-are ms = ap₂ (λ a b. headWord (length ms) ∷ placeWord (natAbs a) (natAbs b) ∷ map stageWord ms) (sym (-ℤ-+ℤ-cancel (pos (s .x)) (pos 15))) (sym (-ℤ-+ℤ-cancel (pos (s .y)) (pos 15)))
+  words-are ms =
+      ap₂ (λ a b. headWord (length ms) ∷ placeWord (natAbs a) (natAbs b) ∷ map stageWord ms) (sym (-ℤ-+ℤ-cancel (pos (s .x)) (pos 15)))
+      (sym (-ℤ-+ℤ-cancel (pos (s .y)) (pos 15)))
 
 -- ---- what planning answers
 
@@ -106,7 +112,8 @@ module _ (ws out : List ℕ) (s : Shape) (W : Rows16 (s .rows)) (F : StandsFor (
   pub few : found ≡ true → n ≤ 30
   few e = subst (λ k. k ≤ 30) (length-chosen masks n) (at-most-30 stage (λ m t. t) (s .rows) W (chosen masks n) (S .some e .sums))
 
-  pub written : found ≡ true → (k : ℕ) (out′ : List ℕ) (r : Answer) → stated r ≡ result k → WrittenPlan (s .x) (s .y) (chosen masks n) out k out′ → PlanWritten ws out r out′
+  pub written : found ≡ true → (k : ℕ) (out′ : List ℕ) (r : Answer) → stated r ≡ result k → WrittenPlan (s .x) (s .y) (chosen masks n) out k out′
+      → PlanWritten ws out r out′
   written e k out′ r a w = record {
     offset = place s;
     stages = chosen masks n;

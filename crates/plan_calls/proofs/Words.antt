@@ -58,13 +58,15 @@ module _ (x y : ℕ) (masks : List ℕ) (n : ℕ) where
       let m = length-chosen masks n in
       omega arith
 
-  pub stage-more : (out now : List ℕ) (i v : ℕ) → i < n → n + 2 ≤ length out → v ≡ stageWord (getD masks (n - 1 - i) 0) → WrittenTo out i now → WrittenTo out (i + 1) (set now (i + 2) v)
+  pub stage-more : (out now : List ℕ) (i v : ℕ) → i < n → n + 2 ≤ length out → v ≡ stageWord (getD masks (n - 1 - i) 0) → WrittenTo out i now
+      → WrittenTo out (i + 1) (set now (i + 2) v)
   stage-more out now i v h r e p =
       let m = length-chosen masks n in
       let s : take (i + 1) L ≡ take i L ++ getD L i 0 ∷ [] = ap (λ k. take k L) (add-one i) ∙ take-suc L i 0 (omega arith) in
       let q : wordsTo (i + 1) ≡ wordsTo i ++ v ∷ [] =
       ap (λ l. headWord n ∷ placeWord x y ∷ l)
-      (ap (map stageWord) s ∙ map-append stageWord (take i L) (getD L i 0 ∷ []) ∙ ap (λ w. map stageWord (take i L) ++ w ∷ []) (ap stageWord (chosen-at masks n i h) ∙ sym e)) in
+      (ap (map stageWord) s ∙ map-append stageWord (take i L) (getD L i 0 ∷ [])
+      ∙ ap (λ w. map stageWord (take i L) ++ w ∷ []) (ap stageWord (chosen-at masks n i h) ∙ sym e)) in
       let l = to-length i (omega arith) in
       let w = written-more (wordsTo i) out now (i + 2) v (omega arith) p in
       let d : i + 2 + 1 ≡ i + 1 + 2 = omega arith in
@@ -78,5 +80,11 @@ module _ (x y : ℕ) (masks : List ℕ) (n : ℕ) where
       let t : take n L ≡ L = ap (λ k. take k L) (sym m) ∙ take-length L in
       let q : wordsTo n ≡ wordsOf x y L = ap₂ (λ k l. headWord k ∷ placeWord x y ∷ map stageWord l) (sym m) t in
       let l = to-length n (omega arith) in
-      let past : drop (n + 2) (set (set out 0 v) 1 w) ≡ drop (n + 2) out = drop-set-lt (n + 2) (set out 0 v) 1 w (omega arith) ∙ drop-set-lt (n + 2) out 0 v (omega arith) in
-      record { count = omega arith; words = p .words ∙ ap₂ (λ a k. a ++ drop k (set (set out 0 v) 1 w)) q l ∙ ap (λ d. wordsOf x y L ++ d) past ∙ ap (λ k. wordsOf x y L ++ drop (k + 2) out) (sym m) }
+      let past : drop (n + 2) (set (set out 0 v) 1 w) ≡ drop (n + 2) out = drop-set-lt (n + 2) (set out 0 v) 1 w (omega arith)
+      ∙ drop-set-lt (n + 2) out 0 v (omega arith) in
+      record {
+        count = omega arith;
+        words =
+            p .words ∙ ap₂ (λ a k. a ++ drop k (set (set out 0 v) 1 w)) q l ∙ ap (λ d. wordsOf x y L ++ d) past
+            ∙ ap (λ k. wordsOf x y L ++ drop (k + 2) out) (sym m);
+      }

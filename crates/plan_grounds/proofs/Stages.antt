@@ -34,7 +34,8 @@ masks-tried ws = ap₂ (λ a b. a || b) (not-all-map stageMask stage (drop 2 ws)
 -- ---- the sums of the extents
 
 -- a loop over the words: one more, and none left
-pub extent-one : (down : Bool) (l : List ℕ) (i : ℕ) → i < length l → extentOf down (drop i l) ≡ reach down (stageMask (getD l i 0)) + extentOf down (drop (i + 1) l)
+pub extent-one : (down : Bool) (l : List ℕ) (i : ℕ) → i < length l
+    → extentOf down (drop i l) ≡ reach down (stageMask (getD l i 0)) + extentOf down (drop (i + 1) l)
 extent-one down l i h =
     ap (extentOf down) (drop-cons l i 0 h) ∙ ap (λ n. reach down (stageMask (getD l i 0)) + extentOf down (drop n l)) (sym (add-one i))
 

@@ -5,7 +5,8 @@ use mathlib.Core.List.{List, [], _∷_}
 use mathlib.Core.Bool.{Bool, true, false, cond}
 use Prim.Native.Nat.{ℕ, zero, suc, _+_, _*_, _/_, _%_, _^_, _<_, zero-le, suc-le-suc}
 use native.Mathlib.Omega.{arith}
-use native.Mathlib.Nat.{div-add-mod, mul-mod-right, zero-div, pow-succ', div-div-eq-div-mul, add-suc, suc-add, le-of-suc-le-suc, not-suc-le-zero, add-zero, zero-add, mul-assoc}
+use native.Mathlib.Nat.{div-add-mod, mul-mod-right, zero-div, pow-succ', div-div-eq-div-mul, add-suc, suc-add, le-of-suc-le-suc, not-suc-le-zero}
+use native.Mathlib.Nat.{add-zero, zero-add, mul-assoc}
 use lib.Dec.{T, eqb, eqb→eq}
 use lib.ListN.{length}
 use Rattle.plane.specs.Lists.{In, bits, upTo, packed}

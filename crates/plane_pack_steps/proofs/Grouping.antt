@@ -34,14 +34,21 @@ fewBit s w r v j k q = cond (ltb q j) (getD s (q * w + k) 0 % 2) (bit (v * 2 ^ r
 module _ (s : List ℕ) (w r v : ℕ) where
   -- before the first row
   pub few-none : {d d' : List ℕ} → Ranged 0 0 (length d) (λ _. v * 2 ^ r % 256) d d' → Bitted 0 (length d') (fewBit s w r v 0) d' d'
-  few-none a = record { len = refl; at = λ k q lo hi lq. ap (λ (n : ℕ). bit n q) (a .at k lo (omega (arith, a .len))) ∙ rw (le-ltb q 0 (omega arith)); below = λ k u. refl; above = λ k u. refl }
+  few-none a =
+      record {
+        len = refl;
+        at = λ k q lo hi lq. ap (λ (n : ℕ). bit n q) (a .at k lo (omega (arith, a .len))) ∙ rw (le-ltb q 0 (omega arith));
+        below = λ k u. refl;
+        above = λ k u. refl;
+      }
 
   module _ (j : ℕ) (l : j < r) (small : r < 8) (fits : r * w ≤ length s) where
     -- the row's cells
     row : (k : ℕ) → k < w → getD (midOf (j * w) (j * w + w - j * w) s) k 0 ≡ getD s (j * w + k) 0
     row k h = getD-mid 0 (j * w) (j * w + w - j * w) s k (omega arith)
 
-    lay-bit : (b k q : ℕ) → k < w → q < 8 → bit b q ≡ fewBit s w r v j k q → laidBit b (getD (midOf (j * w) (j * w + w - j * w) s) k 0) j q ≡ fewBit s w r v (j + 1) k q
+    lay-bit : (b k q : ℕ) → k < w → q < 8 → bit b q ≡ fewBit s w r v j k q
+        → laidBit b (getD (midOf (j * w) (j * w + w - j * w) s) k 0) j q ≡ fewBit s w r v (j + 1) k q
     lay-bit b k q h lq e =
         let c = getD (midOf (j * w) (j * w + w - j * w) s) k 0 in
         ⊎-elim
@@ -66,7 +73,8 @@ module _ (s : List ℕ) (w r v : ℕ) where
         (lt-or-le q j)
 
     pub few-more : {d d' d'' : List ℕ} → length d ≤ w → Bitted 0 (length d) (fewBit s w r v j) d d'
-        → Bitted 0 (length d') (λ k q. laidBit (getD d' k 0) (getD (midOf (j * w) (j * w + w - j * w) s) k 0) j q) d' d'' → Bitted 0 (length d) (fewBit s w r v (j + 1)) d d''
+        → Bitted 0 (length d') (λ k q. laidBit (getD d' k 0) (getD (midOf (j * w) (j * w + w - j * w) s) k 0) j q) d' d''
+        → Bitted 0 (length d) (fewBit s w r v (j + 1)) d d''
     few-more {d} {d'} h a b = record {
       len = b .len ∙ a .len;
       at = λ k q lo hi lq. b .at k q lo (omega (arith, a .len)) lq ∙ lay-bit (getD d' k 0) k q (omega arith) lq (a .at k q lo hi lq);
@@ -75,7 +83,8 @@ module _ (s : List ℕ) (w r v : ℕ) where
     }
 
   -- all of them
-  pub few-all : {d d' d'' : List ℕ} → Ranged 0 0 (length d) (λ _. v * 2 ^ r % 256) d d' → Bitted 0 (length d') (fewBit s w r v r) d' d'' → Bitted 0 (length d) (groupBit s w r v) d d''
+  pub few-all : {d d' d'' : List ℕ} → Ranged 0 0 (length d) (λ _. v * 2 ^ r % 256) d d' → Bitted 0 (length d') (fewBit s w r v r) d' d''
+      → Bitted 0 (length d) (groupBit s w r v) d d''
   few-all a b = record {
     len = b .len ∙ a .len;
     at = λ k q lo hi lq. b .at k q lo (omega (arith, a .len)) lq ∙ ⊎-elim
@@ -91,7 +100,8 @@ module _ (s : List ℕ) (w r v : ℕ) where
 
 -- a part of the bytes that has a part of the cells
 pub group-put : (w a p q v : ℕ) (f d : List ℕ) {ys : List ℕ} (r : ℕ) → r ≡ min a 8 → p + w ≤ length d → q + r * w ≤ length f
-    → Bitted 0 (length (midOf p (p + w - p) d)) (groupBit (midOf q (q + r * w - q) f) w r v) (midOf p (p + w - p) d) ys → GroupPut w a p q v f d (putMid p (p + w - p) d ys)
+    → Bitted 0 (length (midOf p (p + w - p) d)) (groupBit (midOf q (q + r * w - q) f) w r v) (midOf p (p + w - p) d) ys
+    → GroupPut w a p q v f d (putMid p (p + w - p) d ys)
 group-put w a p q v f d {ys} r e hd hf g =
     let b = bitted-part {a = p} {e = p + w} {xs = d} (omega arith) hd g in record {
       len = b .len;
@@ -99,7 +109,8 @@ group-put w a p q v f d {ys} r e hd hf g =
           let z : p + k - p ≡ k = omega arith in
           b .at (p + k) i (omega arith) (omega arith) li
           ∙ ap (λ (n : ℕ). groupBit (midOf q (q + r * w - q) f) w r v n i) z
-          ∙ subst (λ (n : ℕ). groupBit (midOf q (q + r * w - q) f) w r v k i ≡ cond (ltb i n) (getD f (q + (i * w + k)) 0 % 2) (bit v (i - n))) e (cells k i lk);
+          ∙ subst (λ (n : ℕ). groupBit (midOf q (q + r * w - q) f) w r v k i ≡ cond (ltb i n) (getD f (q + (i * w + k)) 0 % 2) (bit v (i - n))) e
+          (cells k i lk);
       below = b .below;
       above = b .above;
     }

@@ -29,10 +29,12 @@ pub laid-bit : (a c j q : ℕ) → j < 8 → q < 8 → bit (bitOr a (c % 2 * 2 ^
 laid-bit a c j q l u = bit-or a (c % 2 * 2 ^ j % 256) q ∙ ap (λ (n : ℕ). max (bit a q) n) (moved c j q l u)
 
 -- four bits, and four above them
-two-fours : (u v : ℕ) → v < 16 → (bit (u * 16 + v) 0 ≡ bit v 0) × (bit (u * 16 + v) 1 ≡ bit v 1) × (bit (u * 16 + v) 2 ≡ bit v 2) × (bit (u * 16 + v) 3 ≡ bit v 3)
+two-fours : (u v : ℕ) → v < 16
+    → (bit (u * 16 + v) 0 ≡ bit v 0) × (bit (u * 16 + v) 1 ≡ bit v 1) × (bit (u * 16 + v) 2 ≡ bit v 2) × (bit (u * 16 + v) 3 ≡ bit v 3)
 two-fours u v l = (omega arith, omega arith, omega arith, omega arith)
 
-four-above : (u v : ℕ) → v < 16 → (bit (u * 16 + v) 4 ≡ bit u 0) × (bit (u * 16 + v) 5 ≡ bit u 1) × (bit (u * 16 + v) 6 ≡ bit u 2) × (bit (u * 16 + v) 7 ≡ bit u 3)
+four-above : (u v : ℕ) → v < 16
+    → (bit (u * 16 + v) 4 ≡ bit u 0) × (bit (u * 16 + v) 5 ≡ bit u 1) × (bit (u * 16 + v) 6 ≡ bit u 2) × (bit (u * 16 + v) 7 ≡ bit u 3)
 four-above u v l = (omega arith, omega arith, omega arith, omega arith)
 
 pub eight-of : (a b c d e f g h u v : ℕ) → Four e f g h u → Four a b c d v → Eight a b c d e f g h (u * 16 + v)
@@ -51,7 +53,9 @@ eight-of a b c d e f g h u v p q =
     }
 
 -- eight cells of a column, w apart
-pub eight-bits : (s : List ℕ) (w k r q : ℕ) → q < 8 → Eight (getD s k 0) (getD s (w + k) 0) (getD s (2 * w + k) 0) (getD s (3 * w + k) 0) (getD s (4 * w + k) 0) (getD s (5 * w + k) 0) (getD s (6 * w + k) 0) (getD s (7 * w + k) 0) r
+pub eight-bits : (s : List ℕ) (w k r q : ℕ) → q < 8
+    → Eight (getD s k 0) (getD s (w + k) 0) (getD s (2 * w + k) 0) (getD s (3 * w + k) 0) (getD s (4 * w + k) 0) (getD s (5 * w + k) 0)
+    (getD s (6 * w + k) 0) (getD s (7 * w + k) 0) r
     → bit r q ≡ getD s (q * w + k) 0 % 2
 eight-bits s w k r zero l e = let z : k ≡ zero * w + k = omega arith in e .bit0 ∙ ap (λ (n : ℕ). getD s n 0 % 2) z
 eight-bits s w k r (suc zero) l e = let z : w + k ≡ suc zero * w + k = omega arith in e .bit1 ∙ ap (λ (n : ℕ). getD s n 0 % 2) z

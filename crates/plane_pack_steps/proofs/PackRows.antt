@@ -62,7 +62,8 @@ unfolding bitSeen
 same-seen s d d′ x z e = ap (λ (n : ℕ). bit n (z % 8)) e
 
 -- one group more
-module _ (v W H C R y p q : ℕ) (f d d′ : List ℕ) (hv : v ≤ 1) (hw : W ≤ C) (hy : y < H) (h8 : y % 8 ≡ 0) (hp : p ≡ (y / 8 + 1) * (C + 2) + 2) (hq : q ≡ y * W) (fits : W * H ≤ length f)
+module _ (v W H C R y p q : ℕ) (f d d′ : List ℕ) (hv : v ≤ 1) (hw : W ≤ C) (hy : y < H) (h8 : y % 8 ≡ 0) (hp : p ≡ (y / 8 + 1) * (C + 2) + 2)
+    (hq : q ≡ y * W) (fits : W * H ≤ length f)
     (hR : H ≤ R) (u : Until v W H C R y f d) (b : GroupPut W (H - y) p q (v * 255) f d d′) where
   -- the rows of the group
   abbrev r : ℕ
@@ -109,7 +110,9 @@ module _ (v W H C R y p q : ℕ) (f d d′ : List ℕ) (hv : v ≤ 1) (hw : W �
             let e : q + (z % 8 * W + (x - 2)) ≡ (z - 8) * W + (x - 2) = omega (arith, add-mul y (z % 8) W, ap (λ (n : ℕ). n * W) g) in
             ap (λ (n : ℕ). getD f n 0 % 2) e
             ∙ sym (low-at f ((z - 8) * W + (x - 2)))
-            ∙ sym (in-both v W H (lowBits f) x z w (omega arith) ∙ value-in v (lowBits f) W H (omega (arith, low-size f)) (x - 2) (z - 8) (omega arith) (omega arith))
+            ∙ sym
+            (in-both v W H (lowBits f) x z w (omega arith)
+            ∙ value-in v (lowBits f) W H (omega (arith, low-size f)) (x - 2) (z - 8) (omega arith) (omega arith))
 
         -- above the frame's last row stands the value outside
         grouped : cond (ltb (z % 8) r) (getD f (q + (z % 8 * W + (x - 2))) 0 % 2) (bit (v * 255) (z % 8 - r)) ≡ framed v W H f x z

@@ -28,7 +28,8 @@ pub both-bit : (a b q : ℕ) → (bit (bitAnd a b) q ≡ pickOf true (bit a q) (
 both-bit a b q = (bit-and a b q, bit-or a b q)
 
 -- a byte raised from picks of three is the pick of three that are raised
-pub spanned-three : (erode : Bool) (h l a b c a' b' c' t q : ℕ) → ((q : ℕ) → bit h q ≡ ofThree erode (bit a q) (bit b q) (bit c q)) → ((q : ℕ) → bit l q ≡ ofThree erode (bit a' q) (bit b' q) (bit c' q))
+pub spanned-three : (erode : Bool) (h l a b c a' b' c' t q : ℕ) → ((q : ℕ) → bit h q ≡ ofThree erode (bit a q) (bit b q) (bit c q))
+    → ((q : ℕ) → bit l q ≡ ofThree erode (bit a' q) (bit b' q) (bit c' q))
     → spanned h l t q ≡ ofThree erode (spanned a a' t q) (spanned b b' t q) (spanned c c' t q)
 spanned-three erode h l a b c a' b' c' t q u v = ⊎-elim
     (λ (w : q < t). rw (lt-leb t q w) (v (q + 8 - t)))

@@ -34,14 +34,16 @@ three-tests false false true false f e h = omega arith
 three-tests false false false true f e h = omega arith
 three-tests false false false false f e h = absurd (let u : 3 < 3 = h in omega arith)
 
-no-tests : (erode a b c : Bool) (f : ℕ → ℕ) (e : ℕ) → firstTest a b c ≡ 3 → oneColumn (pickOf erode) c (f 2) (oneColumn (pickOf erode) b (f 1) (oneColumn (pickOf erode) a (f 0) e)) ≡ e
+no-tests : (erode a b c : Bool) (f : ℕ → ℕ) (e : ℕ) → firstTest a b c ≡ 3
+    → oneColumn (pickOf erode) c (f 2) (oneColumn (pickOf erode) b (f 1) (oneColumn (pickOf erode) a (f 0) e)) ≡ e
 no-tests erode true b c f e h = absurd (let u : 0 ≡ 3 = h in omega arith)
 no-tests erode false true c f e h = absurd (let u : 1 ≡ 3 = h in omega arith)
 no-tests erode false false true f e h = absurd (let u : 2 ≡ 3 = h in omega arith)
 no-tests erode false false false f e h = refl
 
 module _ (erode : Bool) (f : ℕ → ℕ) (m s e : ℕ) where
-  pub columns-three : firstColumn m s < 3 → ofColumns (pickOf erode) f m s e ≡ pickOf erode e (ofThree erode (f (standIn m s 0)) (f (standIn m s 1)) (f (standIn m s 2)))
+  pub columns-three : firstColumn m s < 3
+      → ofColumns (pickOf erode) f m s e ≡ pickOf erode e (ofThree erode (f (standIn m s 0)) (f (standIn m s 1)) (f (standIn m s 2)))
   unfolding ofColumns
   columns-three h = rw (add-zero s) (three-tests erode (hasBit m s) (hasBit m (s + 1)) (hasBit m (s + 2)) f e h)
 
@@ -61,6 +63,7 @@ unfolding overBits ofColumns
 nine-bits pick e f m = refl
 
 -- equal readings give equal picks
-pub columns-ap : (pick : ℕ → ℕ → ℕ) (f g : ℕ → ℕ) (m s : ℕ) {e e′ : ℕ} → f 0 ≡ g 0 → f 1 ≡ g 1 → f 2 ≡ g 2 → e ≡ e′ → ofColumns pick f m s e ≡ ofColumns pick g m s e′
+pub columns-ap : (pick : ℕ → ℕ → ℕ) (f g : ℕ → ℕ) (m s : ℕ) {e e′ : ℕ} → f 0 ≡ g 0 → f 1 ≡ g 1 → f 2 ≡ g 2 → e ≡ e′
+    → ofColumns pick f m s e ≡ ofColumns pick g m s e′
 unfolding ofColumns
 columns-ap pick f g m s a b c h = rw (a, b, c, h)

@@ -23,4 +23,5 @@ rows-there n m s h l = rw (le-leb s 65537 h, le-leb (2 * s + 4) m (omega arith),
 
 -- what a pass reads is there
 pub reads-there : (n m c x y z : ℕ) → n + (x + c) ≤ m → n + (y + c) ≤ m → n + (z + c) ≤ m → T (readsFit n m c x y z)
-reads-there n m c x y z h i j = rw (le-leb c m (omega arith), le-leb (n + x) (m - c) (omega arith), le-leb (n + y) (m - c) (omega arith), le-leb (n + z) (m - c) (omega arith)) tt
+reads-there n m c x y z h i j =
+    rw (le-leb c m (omega arith), le-leb (n + x) (m - c) (omega arith), le-leb (n + y) (m - c) (omega arith), le-leb (n + z) (m - c) (omega arith)) tt

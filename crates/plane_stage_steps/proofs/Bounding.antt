@@ -33,7 +33,8 @@ pub trimmed-none : (v a e : ℕ) (d : List ℕ) → Bitted a e (trimmedBit 8 v d
 trimmed-none v a e d = record { len = refl; at = λ k q lo hi lq. rw (lt-ltb q 8 lq); below = λ k l. refl; above = λ k l. refl }
 
 module _ (s n r v : ℕ) {d d₁ d₂ d₃ d₄ : List ℕ} (h : 2 ≤ s) (m : 0 < n)
-    (f : Ranged 0 0 (s + 2) (λ _. v) d d₁) (g : Ranged 0 (n * s + s) (n * s + 2 * s + 2) (λ _. v) d₁ d₂) (p : Padded s n v d₂ d₃) (t : Bitted (n * s + 2) (n * s + s) (trimmedBit r v d₃) d₃ d₄) where
+    (f : Ranged 0 0 (s + 2) (λ _. v) d d₁) (g : Ranged 0 (n * s + s) (n * s + 2 * s + 2) (λ _. v) d₁ d₂) (p : Padded s n v d₂ d₃)
+    (t : Bitted (n * s + 2) (n * s + s) (trimmedBit r v d₃) d₃ d₄) where
   one-row : s ≤ n * s
   one-row = let a : 1 * s ≤ n * s = mul-le-mul-right s m in omega arith
 
@@ -50,7 +51,8 @@ module _ (s n r v : ℕ) {d d₁ d₂ d₃ d₄ : List ℕ} (h : 2 ≤ s) (m : 0
         (λ (u : k < s). p .below k u ∙ g .below k (omega (arith, one-row)) ∙ f .at k (omega arith) l)
         (λ (u : s ≤ k). let e : k ≡ 1 * s + (k - s) = omega arith in ap (λ (i : ℕ). getD d₃ i 0) e ∙ p .at 1 (k - s) (omega arith) m (omega arith))
         (lt-or-le k s);
-    under = λ k lo hi. let a = add-mul n 1 s in let b = add-mul n 2 s in t .above k (omega arith) ∙ p .above k (omega arith) ∙ g .at k (omega arith) (omega arith);
+    under = λ k lo hi. let a = add-mul n 1 s in
+        let b = add-mul n 2 s in t .above k (omega arith) ∙ p .above k (omega arith) ∙ g .at k (omega arith) (omega arith);
     side = λ u x lo hi lx. let b : u * s ≤ n * s = mul-le-mul-right s hi in t .below (u * s + x) (omega arith) ∙ p .at u x lo hi lx;
     inner = λ u x lo hi lx hx. let b = rows-apart s u n hi in t .below (u * s + x) (omega arith) ∙ kept u x lo (omega arith) lx hx;
     last = λ x q lx hx lq.

@@ -45,7 +45,8 @@ module _ (C R m : ℕ) (p : List ℕ) (f : Point → ℕ) (h : Shows C R f p) (x
   read : (X Y : ℕ) → X < C + 4 → Y < byteRows R * 8 + 16 → bitSeen (C + 2) p X Y ≡ f (pos X -ℤ pos 2, pos Y -ℤ pos 8)
   read = h .at
 
-  stage-ahead : overBits (pickOf true) (seedOf true) (λ b. bitSeen (C + 2) p (x + b % 3) (y + b / 3)) m 9 ≡ eroded lesser full (maskPoints m) f (pos (x - 2), pos (y - 8))
+  stage-ahead : overBits (pickOf true) (seedOf true) (λ b. bitSeen (C + 2) p (x + b % 3) (y + b / 3)) m 9
+      ≡ eroded lesser full (maskPoints m) f (pos (x - 2), pos (y - 8))
   unfolding _+ᵖ_
   stage-ahead = over-ap lesser full (λ b. bitSeen (C + 2) p (x + b % 3) (y + b / 3)) (λ b. f ((pos (x - 2), pos (y - 8)) +ᵖ bitPoint b)) m 9
       (λ b l. read (x + b % 3) (y + b / 3) (omega arith) (omega arith)
@@ -53,7 +54,8 @@ module _ (C R m : ℕ) (p : List ℕ) (f : Point → ℕ) (h : Shows C R f p) (x
       ∙ ap (λ (a : ℤ). f (pos (x - 2 + b % 3), a)) (ahead-point y (b / 3) 8 ly))
       ∙ sym (mask-fold lesser full lesser-laws (λ a. f ((pos (x - 2), pos (y - 8)) +ᵖ a)) m)
 
-  stage-back : overBits (pickOf false) (seedOf false) (λ b. bitSeen (C + 2) p (x - b % 3) (y - b / 3)) m 9 ≡ dilated greater free (maskPoints m) f (pos (x - 2), pos (y - 8))
+  stage-back : overBits (pickOf false) (seedOf false) (λ b. bitSeen (C + 2) p (x - b % 3) (y - b / 3)) m 9
+      ≡ dilated greater free (maskPoints m) f (pos (x - 2), pos (y - 8))
   unfolding _+ᵖ_ negᵖ
   stage-back = over-ap greater free (λ b. bitSeen (C + 2) p (x - b % 3) (y - b / 3)) (λ b. f ((pos (x - 2), pos (y - 8)) -ᵖ bitPoint b)) m 9
       (λ b l. read (x - b % 3) (y - b / 3) (omega arith) (omega arith)
@@ -61,14 +63,17 @@ module _ (C R m : ℕ) (p : List ℕ) (f : Point → ℕ) (h : Shows C R f p) (x
       ∙ ap (λ (a : ℤ). f (pos (x - 2) -ℤ pos (b % 3), a)) (back-point y (b / 3) 8 ly (omega arith)))
       ∙ sym (mask-fold greater free greater-laws (λ a. f ((pos (x - 2), pos (y - 8)) -ᵖ a)) m)
 
-  stage-cell : (erode : Bool) (v : ℕ) → overBits (pickOf erode) (seedOf erode) (λ b. bitSeen (C + 2) p (stepOf erode x (b % 3)) (stepOf erode y (b / 3))) m 9 ≡ afterStage erode v C R m f (pos x -ℤ pos 2, pos y -ℤ pos 8)
+  stage-cell : (erode : Bool) (v : ℕ)
+      → overBits (pickOf erode) (seedOf erode) (λ b. bitSeen (C + 2) p (stepOf erode x (b % 3)) (stepOf erode y (b / 3))) m 9
+      ≡ afterStage erode v C R m f (pos x -ℤ pos 2, pos y -ℤ pos 8)
   stage-cell true v = stage-ahead ∙ sym (after-in true v C R m f x y lx hx ly hy)
   stage-cell false v = stage-back ∙ sym (after-in false v C R m f x y lx hx ly hy)
 
 -- ---- the bytes
 
 -- the passes' cells, in the image that they are lent a part of
-module _ (erode : Bool) (s n m : ℕ) (p d ys : List ℕ) (h : 2 ≤ s) (one : s ≤ n * s) (room : n * s + s ≤ length d) (r : Rowed erode s m p (midOf (s + 2) (n * s + s - (s + 2)) d) ys) where
+module _ (erode : Bool) (s n m : ℕ) (p d ys : List ℕ) (h : 2 ≤ s) (one : s ≤ n * s) (room : n * s + s ≤ length d)
+    (r : Rowed erode s m p (midOf (s + 2) (n * s + s - (s + 2)) d) ys) where
   past : (k : ℕ) → length (midOf (s + 2) (n * s + s - (s + 2)) d) ≤ k → getD ys k 0 ≡ getD (midOf (s + 2) (n * s + s - (s + 2)) d) k 0
   past k l = List·getD-eq-default ys 0 (omega (arith, r .len)) ∙ sym (List·getD-eq-default (midOf (s + 2) (n * s + s - (s + 2)) d) 0 l)
 
@@ -78,7 +83,8 @@ module _ (erode : Bool) (s n m : ℕ) (p d ys : List ℕ) (h : 2 ≤ s) (one : s
       (record { len = r .len; at = λ k l u. refl; below = λ k l. absurd (omega arith); above = past })
 
   pub part-cell : (x y : ℕ) → 2 ≤ x → 8 ≤ y → y / 8 * s + x < n * s + s
-      → bitSeen s (putMid (s + 2) (n * s + s - (s + 2)) d ys) x y ≡ overBits (pickOf erode) (seedOf erode) (λ b. bitSeen s p (stepOf erode x (b % 3)) (stepOf erode y (b / 3))) m 9
+      → bitSeen s (putMid (s + 2) (n * s + s - (s + 2)) d ys) x y
+      ≡ overBits (pickOf erode) (seedOf erode) (λ b. bitSeen s p (stepOf erode x (b % 3)) (stepOf erode y (b / 3))) m 9
   unfolding bitSeen
   part-cell x y lx ly l =
       let a : 1 * s ≤ y / 8 * s = mul-le-mul-right s (omega arith) in
@@ -107,7 +113,9 @@ module _ (erode : Bool) (v C R m : ℕ) (p mid d′ : List ℕ) (hv : v ≤ 1) (
   under-all : byteRows R * 8 + 8 ≤ y → y < byteRows R * 8 + 16 → bitSeen (C + 2) d′ x y ≡ afterStage erode v C R m f (pos x -ℤ pos 2, pos y -ℤ pos 8)
   under-all t t' =
       let z : y / 8 ≡ byteRows R + 1 = omega arith in
-      as-value (b .under (y / 8 * (C + 2) + x) (omega (arith, ap (λ (i : ℕ). i * (C + 2)) z)) (omega (arith, ap (λ (i : ℕ). i * (C + 2)) z, add-mul (byteRows R) 1 (C + 2), add-mul (byteRows R) 2 (C + 2))))
+      as-value
+      (b .under (y / 8 * (C + 2) + x) (omega (arith, ap (λ (i : ℕ). i * (C + 2)) z))
+      (omega (arith, ap (λ (i : ℕ). i * (C + 2)) z, add-mul (byteRows R) 1 (C + 2), add-mul (byteRows R) 2 (C + 2))))
       ∙ sym (after-under erode v C R m f x y (omega arith))
 
   left-side : 8 ≤ y → y < byteRows R * 8 + 8 → x < 2 → bitSeen (C + 2) d′ x y ≡ afterStage erode v C R m f (pos x -ℤ pos 2, pos y -ℤ pos 8)
@@ -134,18 +142,21 @@ module _ (erode : Bool) (v C R m : ℕ) (p mid d′ : List ℕ) (hv : v ≤ 1) (
   inner-rows t t' u u' = unmoved t t' u u' ∙ as-made u u' t (omega arith)
 
   -- the last row of bytes, by whether it has the bit
-  last-byte : y / 8 ≡ byteRows R → 2 ≤ x → x < C + 2 → bitSeen (C + 2) d′ x y ≡ cond (ltb (y % 8) (lastRows R)) (bitSeen (C + 2) mid x y) (bit (v * 255) (y % 8))
+  last-byte : y / 8 ≡ byteRows R → 2 ≤ x → x < C + 2
+      → bitSeen (C + 2) d′ x y ≡ cond (ltb (y % 8) (lastRows R)) (bitSeen (C + 2) mid x y) (bit (v * 255) (y % 8))
   unfolding bitSeen
   last-byte z u u' = rw z (b .last x (y % 8) u u' (omega arith))
 
   last-row : 8 ≤ y → y / 8 ≡ byteRows R → 2 ≤ x → x < C + 2 → bitSeen (C + 2) d′ x y ≡ afterStage erode v C R m f (pos x -ℤ pos 2, pos y -ℤ pos 8)
   last-row t z u u' = last-byte z u u' ∙ ⊎-elim
       (λ (w : y % 8 < lastRows R). rw (lt-ltb (y % 8) (lastRows R) w) (as-made u u' t (omega arith)))
-      (λ (w : lastRows R ≤ y % 8). rw (le-ltb (y % 8) (lastRows R) w) (one-value v (y % 8) hv (omega arith) ∙ sym (after-under erode v C R m f x y (omega arith))))
+      (λ (w : lastRows R ≤ y % 8). rw (le-ltb (y % 8) (lastRows R) w)
+      (one-value v (y % 8) hv (omega arith) ∙ sym (after-under erode v C R m f x y (omega arith))))
       (lt-or-le (y % 8) (lastRows R))
 
   between : 8 ≤ y → y < byteRows R * 8 + 8 → 2 ≤ x → x < C + 2 → bitSeen (C + 2) d′ x y ≡ afterStage erode v C R m f (pos x -ℤ pos 2, pos y -ℤ pos 8)
-  between t t' u u' = ⊎-elim (λ (w : y / 8 < byteRows R). inner-rows t w u u') (λ (w : byteRows R ≤ y / 8). last-row t (omega arith) u u') (lt-or-le (y / 8) (byteRows R))
+  between t t' u u' =
+      ⊎-elim (λ (w : y / 8 < byteRows R). inner-rows t w u u') (λ (w : byteRows R ≤ y / 8). last-row t (omega arith) u u') (lt-or-le (y / 8) (byteRows R))
 
   pub shown-at : y < byteRows R * 8 + 16 → bitSeen (C + 2) d′ x y ≡ afterStage erode v C R m f (pos x -ℤ pos 2, pos y -ℤ pos 8)
   shown-at l = ⊎-elim

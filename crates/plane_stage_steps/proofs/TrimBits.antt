@@ -23,5 +23,6 @@ module _ (a r v q : ℕ) (h : 0 < r) (u : r < 8) (l : q < 8) where
       let t = bit-and v (255 * 2 ^ r % 256) q in
       ⊎-elim
       (λ (w : q < r). rw (lt-ltb q r w) (omega (arith, low-mask, ones8 (8 - r + q) (omega arith), up-out 255 r q w l)))
-      (λ (w : r ≤ q). rw (le-ltb q r w) (omega (arith, low-mask, bit-past 8 255 (8 - r + q) (omega arith) (omega arith), up-in 255 r q w l, ones8 (q - r) (omega arith))))
+      (λ (w : r ≤ q). rw (le-ltb q r w)
+      (omega (arith, low-mask, bit-past 8 255 (8 - r + q) (omega arith) (omega arith), up-in 255 r q w l, ones8 (q - r) (omega arith))))
       (lt-or-le q r)

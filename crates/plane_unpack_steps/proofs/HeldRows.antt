@@ -49,7 +49,8 @@ pub halves-made : (j h : ℕ) (s d : List ℕ) {y₁ y₂ : List ℕ} → h ≤ 
     → Ranged 0 0 (length d) (λ k. bit (getD s k 0) j) d (putMid (length d - h) (length d - (length d - h)) (putMid 0 (h - 0) d y₁) y₂)
 halves-made j h s d l u f₁ f₂ =
     let n = length d in
-    let r = ranged-ap (ranged-part {a = 0} {e = h} {xs = d} zero-le l f₁) (λ k lo hi. let e : k - 0 ≡ k = omega arith in ap (λ (i : ℕ). bit (getD s i 0) j) e) in
+    let r = ranged-ap (ranged-part {a = 0} {e = h} {xs = d} zero-le l f₁)
+    (λ k lo hi. let e : k - 0 ≡ k = omega arith in ap (λ (i : ℕ). bit (getD s i 0) j) e) in
     let t = ranged-ap (ranged-part {a = n - h} {e = n} (omega arith) (omega (arith, r .len)) f₂)
     (λ k lo hi.
     let e : n - h + (k - (n - h)) ≡ k = omega arith in

@@ -18,7 +18,8 @@ pub bitted-none : (F : ℕ → ℕ → ℕ) (d : List ℕ) → Bitted 0 0 F d d
 bitted-none F d = record { len = refl; at = λ k q l u. absurd (omega arith); below = λ k l. refl; above = λ k l. refl }
 
 -- a store at the end of the run makes it longer by one
-pub bitted-more : {i : ℕ} {F : ℕ → ℕ → ℕ} {d d' : List ℕ} (v : ℕ) → Bitted 0 i F d d' → i < length d → ((q : ℕ) → q < 8 → bit v q ≡ F i q) → Bitted 0 (i + 1) F d (set d' i v)
+pub bitted-more : {i : ℕ} {F : ℕ → ℕ → ℕ} {d d' : List ℕ} (v : ℕ) → Bitted 0 i F d d' → i < length d → ((q : ℕ) → q < 8 → bit v q ≡ F i q)
+    → Bitted 0 (i + 1) F d (set d' i v)
 bitted-more {i} {F} {d} {d'} v r l e = record {
   len = length-set d' i v ∙ r .len;
   at = λ k q lo hi lq. ⊎-elim
@@ -35,7 +36,8 @@ pub bitted-part : {a e : ℕ} {F : ℕ → ℕ → ℕ} {xs ys : List ℕ} → a
     → Bitted 0 (length (midOf a (e - a) xs)) F (midOf a (e - a) xs) ys → Bitted a e (λ k. F (k - a)) xs (putMid a (e - a) xs ys)
 bitted-part {a} {e} {F} {xs} {ys} h g r =
     let s : Ranged 0 a e (λ k. getD ys (k - a) 0) xs (putMid a (e - a) xs ys) =
-    ranged-part {f = λ (k : ℕ). getD ys k 0} {xs = xs} {ys = ys} h g (record { len = r .len; at = λ k l u. refl; below = r .below; above = r .above }) in record {
+    ranged-part {f = λ (k : ℕ). getD ys k 0} {xs = xs} {ys = ys} h g (record { len = r .len; at = λ k l u. refl; below = r .below; above = r .above }) in
+    record {
       len = s .len;
       at = λ k q lo hi lq. ap (λ (n : ℕ). bit n q) (s .at k lo hi) ∙ r .at (k - a) q (omega arith) (within k lo hi) lq;
       below = s .below;
@@ -53,7 +55,8 @@ bitted-ap r h = record { len = r .len; at = λ k q lo hi l. r .at k q lo hi l �
 pub bitted-lap : {c m e : ℕ} {F : ℕ → ℕ → ℕ} {d d' d'' : List ℕ} → Bitted 0 m F d d' → Bitted c e F d' d'' → c ≤ m → m ≤ e → Bitted 0 e F d d''
 bitted-lap {c} {m} {e} r s g i = record {
   len = s .len ∙ r .len;
-  at = λ k q l u lq. ⊎-elim (λ (v : k < c). ap (λ (n : ℕ). bit n q) (s .below k v) ∙ r .at k q l (omega arith) lq) (λ (v : c ≤ k). s .at k q v u lq) (lt-or-le k c);
+  at = λ k q l u lq. ⊎-elim (λ (v : k < c). ap (λ (n : ℕ). bit n q) (s .below k v) ∙ r .at k q l (omega arith) lq) (λ (v : c ≤ k). s .at k q v u lq)
+      (lt-or-le k c);
   below = λ k u. absurd (omega arith);
   above = λ k u. s .above k u ∙ r .above k (omega arith);
 }

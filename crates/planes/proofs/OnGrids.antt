@@ -1,5 +1,5 @@
--- Planes that show a grid: packing loses nothing of cells that are 0 or 1, a stage gives the single stage of document 01, and what is cut out of a plane's cells is
--- what is cut out of the grid that it shows.
+-- Planes that show a grid: packing loses nothing of cells that are 0 or 1, a stage gives the single stage of document 01, and what is cut out of a
+-- plane's cells is what is cut out of the grid that it shows.
 use mathlib.Core.Path.{_≡_, refl, sym, ap, ap₂, _∙_, fun-ext}
 use mathlib.Core.Logic.{⊎-elim}
 use mathlib.Core.Bool.{Bool, not}
@@ -110,7 +110,8 @@ module _ (W H : ℕ) (lw : W ≤ 240) (lh : H ≤ 240) where
         le-leb (planeSize (W + 15) (H + 15)) k hk,
       ) tt
 
-  pub grid-unpack : (w h a b n k : ℕ) → w ≤ W + 15 → h ≤ H + 15 → a ≤ 30 → b ≤ 30 → planeSize (W + 15) (H + 15) ≤ n → w * h ≤ k → T (unpackFits w h (W + 15) (H + 15) a b n k)
+  pub grid-unpack : (w h a b n k : ℕ) → w ≤ W + 15 → h ≤ H + 15 → a ≤ 30 → b ≤ 30 → planeSize (W + 15) (H + 15) ≤ n → w * h ≤ k
+      → T (unpackFits w h (W + 15) (H + 15) a b n k)
   grid-unpack w h a b n k hw hh ha hb hn hk =
       rw (
         le-leb w 65535 (omega arith),

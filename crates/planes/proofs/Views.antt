@@ -79,6 +79,7 @@ module _ (erode : Bool) (v C R m : ℕ) (f : Point → ℕ) (x y : ℕ) where
   unfolding afterStage after-cells
   after-under u = out-under v C R after-cells x y u
 
-  pub after-in : 2 ≤ x → x < C + 2 → 8 ≤ y → y < R + 8 → afterStage erode v C R m f (pos x -ℤ pos 2, pos y -ℤ pos 8) ≡ over erode (maskPoints m) f (pos (x - 2), pos (y - 8))
+  pub after-in : 2 ≤ x → x < C + 2 → 8 ≤ y → y < R + 8
+      → afterStage erode v C R m f (pos x -ℤ pos 2, pos y -ℤ pos 8) ≡ over erode (maskPoints m) f (pos (x - 2), pos (y - 8))
   unfolding afterStage
   after-in u u' t t' = cell-in v C R (over erode (maskPoints m) f) x y u u' t t'

@@ -68,7 +68,8 @@ some-point ws S =
 
 module _ (ws out : List ℕ) (e : firstOf (planningTests ws out) ≡ 0) (r : Answer) (out′ : List ℕ) (p : Planned ws out r out′) where
   -- with a picked plan: its words, and their number
-  pub planned : (d : Point) (ms : List ℕ) → Picked stage (ShapeSet ws) d ms → (stated r ≡ result (length ms + 2)) × (out′ ≡ planWords d ms ++ drop (length ms + 2) out)
+  pub planned : (d : Point) (ms : List ℕ) → Picked stage (ShapeSet ws) d ms
+      → (stated r ≡ result (length ms + 2)) × (out′ ≡ planWords d ms ++ drop (length ms + 2) out)
   planned d ms P = go (p .done e)
     where
       go : Unplannable ws out r out′ ⊎ PlanWritten ws out r out′ → (stated r ≡ result (length ms + 2)) × (out′ ≡ planWords d ms ++ drop (length ms + 2) out)
@@ -104,7 +105,8 @@ module _ (ws out : List ℕ) (e : firstOf (planningTests ws out) ≡ 0) where
         planWords d ms ++ drop (length ms + 2) out,
         record {
           refused = λ n. absurd (n e);
-          done = λ _. inr (record { offset = d; stages = ms; picked = P; fewest = picked-fewest (ShapeSet ws) (q .0) (q .1) d ms P; answer = refl; words = refl });
+          done = λ _. inr
+              (record { offset = d; stages = ms; picked = P; fewest = picked-fewest (ShapeSet ws) (q .0) (q .1) d ms P; answer = refl; words = refl });
         },
       )
 

@@ -41,7 +41,8 @@ plan-only : shown (0, 2) (0x30000000 ∷ 0x40000f0f ∷ 7 ∷ []) ≡ wordLines 
 plan-only = refl
 
 -- each digit at its place
-digits-all : (wordLine 0x12345678 ≡ 49 ∷ 50 ∷ 51 ∷ 52 ∷ 53 ∷ 54 ∷ 55 ∷ 56 ∷ 10 ∷ []) × (wordLine 0xfedcba90 ≡ 102 ∷ 101 ∷ 100 ∷ 99 ∷ 98 ∷ 97 ∷ 57 ∷ 48 ∷ 10 ∷ [])
+digits-all : (wordLine 0x12345678 ≡ 49 ∷ 50 ∷ 51 ∷ 52 ∷ 53 ∷ 54 ∷ 55 ∷ 56 ∷ 10 ∷ [])
+    × (wordLine 0xfedcba90 ≡ 102 ∷ 101 ∷ 100 ∷ 99 ∷ 98 ∷ 97 ∷ 57 ∷ 48 ∷ 10 ∷ [])
 unfolding wordLine
 digits-all = (refl, refl)
 

@@ -14,7 +14,8 @@ use Rattle.planning.specs.Planning.{planningTests, ShapeSet}
 use Rattle.planning.specs.Printer.{wordLines, Reads, Printed, PrintedFor, shown, refusedLine}
 use Rattle.planning.proofs.Decided.{planned, unplanned, written-words, accepted}
 
-module _ (input output ws : List ℕ) (R : Reads input ws) (P : Printed input output) (ok : (out : List ℕ) → length out ≡ 32 → firstOf (planningTests ws out) ≡ 0) where
+module _ (input output ws : List ℕ) (R : Reads input ws) (P : Printed input output)
+    (ok : (out : List ℕ) → length out ≡ 32 → firstOf (planningTests ws out) ≡ 0) where
   printing : PrintedFor ws output
   printing = P .readable ws R
 

@@ -53,4 +53,11 @@ kept-planned ws out r out′ P = ⊎-elim long short (T-dec (ltb 18 (length ws))
 -- what is printed for the first 18 words is printed for all
 pub kept-printed : (ws output : List ℕ) → PrintedFor (take 18 ws) output → PrintedFor ws output
 kept-printed ws output P =
-    record { out = P .out; room = P .room; answer = P .answer; out′ = P .out′; plans = kept-planned ws (P .out) (P .answer) (P .out′) (P .plans); prints = P .prints }
+    record {
+      out = P .out;
+      room = P .room;
+      answer = P .answer;
+      out′ = P .out′;
+      plans = kept-planned ws (P .out) (P .answer) (P .out′) (P .plans);
+      prints = P .prints;
+    }

@@ -7,7 +7,8 @@ use lib.Seq.{take-all}
 use native.Mathlib.Omega.{arith}
 use Rattle.words.specs.Ground.{numberOf, stated}
 use Rattle.words.specs.declared.Ground.{Ground}
-use Rattle.words.specs.declared.Ground.the-variants.{ListLength, WordKind, ExtraBit, RowOrder, StageCount, PlaceField, StageMask, OutOfRange, OutputLength, NoChain, FrameSize, FrameLength, CellValue, ImageLength}
+use Rattle.words.specs.declared.Ground.the-variants.{ListLength, WordKind, ExtraBit, RowOrder, StageCount, PlaceField, StageMask, OutOfRange}
+use Rattle.words.specs.declared.Ground.the-variants.{OutputLength, NoChain, FrameSize, FrameLength, CellValue, ImageLength}
 use Rattle.words.specs.declared.Answer.{Answer}
 use Rattle.words.specs.declared.Answer.the-variants.{Done, Refused}
 use Rattle.planning.specs.Printer.{wordLines, refusedLine, shown}
@@ -26,7 +27,10 @@ module _ (a : Answer) (out : List ℕ) (r : Page) where
   -- an output list of 32 words has no more
   pub shows-whole : (n : ℕ) → a ≡ Done n → length out ≡ 32 → 32 < n → Holds (wordLines (take 32 out)) r → PageShows a out (take (r .n) (r .bytes))
   shows-whole n e l h H =
-      record { text = page-text _ r H ∙ ap wordLines (take-all 32 out (omega arith) ∙ sym (take-all n out (omega arith))) ∙ sym (ap (λ b. shown (stated b) out) e) }
+      record {
+        text = page-text _ r H ∙ ap wordLines (take-all 32 out (omega arith) ∙ sym (take-all n out (omega arith)))
+            ∙ sym (ap (λ b. shown (stated b) out) e);
+      }
 
 -- no ground has the number 0, and all are below 100
 refused-is : (g : Ground) (out : List ℕ) → refusedLine (numberOf g % 100) ≡ shown (stated (Refused g)) out

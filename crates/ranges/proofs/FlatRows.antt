@@ -20,5 +20,6 @@ pub flat-inj : (w x y x' y' : ℕ) → x < w → x' < w → y * w + x ≡ y' * w
 flat-inj w x y x' y' l l' e =
     ⊎-elim
     (λ (u : y < y'). absurd (let a = rows-apart w y y' u in omega arith))
-    (λ (u : y' ≤ y). ⊎-elim (λ (v : y' < y). absurd (let a = rows-apart w y' y v in omega arith)) (λ (v : y ≤ y'). let q : y ≡ y' = omega arith in omega (arith, ap (λ (n : ℕ). n * w) q)) (lt-or-le y' y))
+    (λ (u : y' ≤ y). ⊎-elim (λ (v : y' < y). absurd (let a = rows-apart w y' y v in omega arith))
+    (λ (v : y ≤ y'). let q : y ≡ y' = omega arith in omega (arith, ap (λ (n : ℕ). n * w) q)) (lt-or-le y' y))
     (lt-or-le y y')

@@ -20,7 +20,8 @@ getD-any [] n a b h = absurd (not-suc-le-zero h)
 getD-any (x ∷ l) zero a b h = refl
 getD-any (x ∷ l) (suc n) a b h = getD-any l n a b (le-of-suc-le-suc h)
 
-module _ (w h : ℕ) (f : Point → ℕ) {F : ℕ → ℕ → ℕ} {d d' : List ℕ} (q : (x y : ℕ) → x < w → y < h → F x y ≡ f (pos x, pos y)) (fits : w * h ≤ length d) (t : Laid F w h d d') where
+module _ (w h : ℕ) (f : Point → ℕ) {F : ℕ → ℕ → ℕ} {d d' : List ℕ} (q : (x y : ℕ) → x < w → y < h → F x y ≡ f (pos x, pos y)) (fits : w * h ≤ length d)
+    (t : Laid F w h d d') where
   size : length (cells w h f) ≡ w * h
   size = length-cells w h f ∙ mul-comm h w
 

@@ -59,7 +59,8 @@ module _ {M : Type 1} (𝓤 : URA M) (H : Heap 𝓤) (A : Atoms 𝓤) (W : Given
   lends =
       qed W (‵ (ReaderOwns κ d) ∷ []) ∵
       use1 W (‵ (ReaderOwns κ d) ⊛ ‵ (ReaderOwns κ d)) (LL.copy (D κ) (T′.the-copy (namedLft 1 0 tt (κ, tt))) 𝓤 H A W .twice d (T′.lowered d ∷ [])) $ split ! $
-      use1 W (given (T′.lowered d ∷ [] ≡ T′.lowered d ∷ []) (‵ (all-own (D κ .parts) (L κ) fields))) (own-open 𝓤 H A W (D κ) (L κ) fields (T′.lowered d)) $ learn ! (λ _.
+      use1 W (given (T′.lowered d ∷ [] ≡ T′.lowered d ∷ []) (‵ (all-own (D κ .parts) (L κ) fields))) (own-open 𝓤 H A W (D κ) (L κ) fields (T′.lowered d)) $
+      learn ! (λ _.
       use1 W (‵ (ownAt (D κ .parts) (L κ) 0 (d .words)) ⊛ ‵ (rest (D κ .parts) (L κ) 0 fields)) (own-out 𝓤 H A W (D κ .parts) (L κ) 0 fields) $ split ! $
       -- [what the slice owns; what the position owns; what the reader owns]
       move ! (1 ∷ []) $ drop ! $ frame ! $ done !)
@@ -68,7 +69,9 @@ module _ {M : Type 1} (𝓤 : URA M) (H : Heap 𝓤) (A : Atoms 𝓤) (W : Given
   abbrev pub passed : List Val × (List Val × Unit {0})
   passed = (value (d .words) ∷ [], (vint w64 (d .at) ∷ [], tt))
 
-  pub passes : d .at < 2 ^ 64 → ent 𝓤 (sem 𝓤 H A (ReaderOwns κ d)) (sep 𝓤 (sem 𝓤 H A (owns (ShrSlice (named 0) κ u32 ∷ usize ∷ []) (d .words, (d .at, tt)) passed)) (sem 𝓤 H A (ReaderOwns κ d)))
+  pub passes : d .at < 2 ^ 64
+      → ent 𝓤 (sem 𝓤 H A (ReaderOwns κ d))
+      (sep 𝓤 (sem 𝓤 H A (owns (ShrSlice (named 0) κ u32 ∷ usize ∷ []) (d .words, (d .at, tt)) passed)) (sem 𝓤 H A (ReaderOwns κ d)))
   passes fits =
       qed W (‵ (ReaderOwns κ d) ∷ []) ∵ use1 W (‵ (SliceOwns κ (d .words)) ⊛ ‵ (ReaderOwns κ d)) lends $ split ! $
       nothing ! $ owned ! usize (Is usize) (uint-makes 𝓤 H A W w64) (d .at) _ (refl, fits) $ fjoin ! $ move ! (1 ∷ 0 ∷ []) $ fjoin ! $ frame ! $ done !

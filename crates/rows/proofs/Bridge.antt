@@ -127,7 +127,8 @@ mask-cells m i j = (
 pub list-points : (X : Cells) (cs : List Cell) → ((x y : ℕ) → X x y ↔ In cs (x, y)) → Points X origin ≐ In (map point cs)
 list-points X cs f p = (
   λ h. In-map point cs p .1 ((h .x, h .y), f (h .x) (h .y) .0 (h .cell), sym (h .at) ∙ +ᵖ-origin (point (h .x, h .y))),
-  λ h. let r = In-map point cs p .0 h in record { x = r .0 .0; y = r .0 .1; cell = f (r .0 .0) (r .0 .1) .1 (r .1); at = +ᵖ-origin (point (r .0)) ∙ sym (r .2) },
+  λ h. let r = In-map point cs p .0 h in
+      record { x = r .0 .0; y = r .0 .1; cell = f (r .0 .0) (r .0 .1) .1 (r .1); at = +ᵖ-origin (point (r .0)) ∙ sym (r .2) },
 )
 
 pub mask-points : (m : ℕ) → Points (AtMask m) origin ≐ Mask m

@@ -28,6 +28,10 @@ fill-more f g j y r v l n e h = record {
 }
 
 -- the same where the list is only known to be the one after the store
-pub fill-set : (f g : ℕ → ℕ) (j y n : ℕ) (r s : List ℕ) (v : ℕ) → s ≡ set r y v → length r ≡ n → j ≤ y → y < n → v ≡ f y → Filled f g j y r → (length s ≡ n) × Filled f g j (y + 1) s
-fill-set f g j y n r s v e l a b w h =
-    (ap length e ∙ length-set r y v ∙ l, subst (λ (k : List ℕ). Filled f g j (y + 1) k) (sym e) (fill-more f g j y r v a (subst (λ (k : ℕ). y < k) (sym l) b) w h))
+pub fill-set : (f g : ℕ → ℕ) (j y n : ℕ) (r s : List ℕ) (v : ℕ) → s ≡ set r y v → length r ≡ n → j ≤ y → y < n → v ≡ f y → Filled f g j y r
+    → (length s ≡ n) × Filled f g j (y + 1) s
+fill-set f g j y n r s v e l a b w h = (
+  ap length e ∙ length-set r y v
+      ∙ l,
+  subst (λ (k : List ℕ). Filled f g j (y + 1) k) (sym e) (fill-more f g j y r v a (subst (λ (k : ℕ). y < k) (sym l) b) w h),
+)

@@ -36,7 +36,10 @@ pub bit-shl : (a i x : ℕ) → bit (a * 2 ^ i) (x + i) ≡ bit a x
 bit-shl a i x = ap (λ (q : ℕ). q % 2) (ap (λ (p : ℕ). a * 2 ^ i / p) (pow-add 2 x i) ∙ mul-div-mul-right a (2 ^ x) (pow-pos i))
 
 low-at : (a d x : ℕ) → bit (a * 2 ^ (d + 1 + x)) x ≡ 0
-low-at a d x = ap (λ (q : ℕ). q % 2) (ap (λ (p : ℕ). a * p / 2 ^ x) (pow-add 2 (d + 1) x) ∙ ap (λ (p : ℕ). p / 2 ^ x) (sym (mul-assoc a (2 ^ (d + 1)) (2 ^ x))) ∙ shl-shr (a * 2 ^ (d + 1)) x)
+low-at a d x =
+    ap (λ (q : ℕ). q % 2)
+    (ap (λ (p : ℕ). a * p / 2 ^ x) (pow-add 2 (d + 1) x) ∙ ap (λ (p : ℕ). p / 2 ^ x) (sym (mul-assoc a (2 ^ (d + 1)) (2 ^ x)))
+    ∙ shl-shr (a * 2 ^ (d + 1)) x)
     ∙ ap (λ (p : ℕ). p % 2) (ap (λ (p : ℕ). a * p) (pow-add 2 d 1) ∙ sym (mul-assoc a (2 ^ d) 2)) ∙ mul-mod-left (a * 2 ^ d) 2
 
 pub bit-shl-low : (a i x : ℕ) → x < i → bit (a * 2 ^ i) x ≡ 0

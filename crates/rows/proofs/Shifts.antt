@@ -67,7 +67,8 @@ module _ (z a : List ℕ) (i j : ℕ) where
     onto-made = record {
       to = λ x y s. ⊎-elim
           (λ w. ⊎-elim inl
-          (λ v. let m = shl-on (getD a (y - j) 0) i x v in inr (record { x1 = x - i; y1 = y - j; was = m .1; at-x = omega (arith, m .0); at-y = omega (arith, w .0) }))
+          (λ v. let m = shl-on (getD a (y - j) 0) i x v in
+          inr (record { x1 = x - i; y1 = y - j; was = m .1; at-x = omega (arith, m .0); at-y = omega (arith, w .0) }))
           (or-on (getD z y 0) (getD a (y - j) 0 * 2 ^ i % 65536) x (ap (λ (n : ℕ). bit n x) (sym (w .1 .1)) ∙ s)))
           (λ w. inl (ap (λ (n : ℕ). bit n x) (sym w) ∙ s))
           (row-at y);
@@ -78,7 +79,8 @@ module _ (z a : List ℕ) (i j : ℕ) where
       from = λ x y s p q.
           let e : y + j - j ≡ y = omega arith in
           ap (λ (n : ℕ). bit n (x + i)) (h .inside (y + j) (omega arith) q)
-          ∙ on-or-r (getD z (y + j) 0) (getD a (y + j - j) 0 * 2 ^ i % 65536) (x + i) (on-shl (getD a (y + j - j) 0) i x (ap (λ (k : ℕ). bit (getD a k 0) x) e ∙ s) p);
+          ∙ on-or-r (getD z (y + j) 0) (getD a (y + j - j) 0 * 2 ^ i % 65536) (x + i)
+          (on-shl (getD a (y + j - j) 0) i x (ap (λ (k : ℕ). bit (getD a k 0) x) e ∙ s) p);
     }
 
 module _ (z t : List ℕ) (i j : ℕ) where
@@ -87,7 +89,10 @@ module _ (z t : List ℕ) (i j : ℕ) where
 
   -- past the last row of t nothing is left
   pub and-out : (q : ℕ) → length t ≤ q + j → 0 ≡ anded q
-  and-out q l = sym (ap (λ (n : ℕ). bitAnd (getD z q 0) (n / 2 ^ i)) (List·getD-eq-default t 0 l) ∙ ap (bitAnd (getD z q 0)) (zero-div (2 ^ i)) ∙ and-zero-r (getD z q 0))
+  and-out q l =
+      sym
+      (ap (λ (n : ℕ). bitAnd (getD z q 0) (n / 2 ^ i)) (List·getD-eq-default t 0 l) ∙ ap (bitAnd (getD z q 0)) (zero-div (2 ^ i))
+      ∙ and-zero-r (getD z q 0))
 
   module _ (lz : length z ≡ 16) (r : List ℕ) (h : Filled anded (was z) 0 16 r) where
     and-at : (y : ℕ) → ((y < 16) × (getD r y 0 ≡ anded y)) ⊎ ((getD z y 0 ≡ 0) × (getD r y 0 ≡ 0))
@@ -103,11 +108,14 @@ module _ (z t : List ℕ) (i j : ℕ) where
           (λ w. absurd (no-bit x (ap (λ (n : ℕ). bit n x) (sym (w .1)) ∙ s)))
           (and-at y);
       to = λ x y s. ⊎-elim
-          (λ w. subst (λ (k : ℕ). bit (getD t (y + j) 0) k ≡ 1) (add-comm i x) (sym (bit-shr (getD t (y + j) 0) i x) ∙ and-on-r (getD z y 0) (getD t (y + j) 0 / 2 ^ i) x (ap (λ (n : ℕ). bit n x) (sym (w .1)) ∙ s)))
+          (λ w. subst (λ (k : ℕ). bit (getD t (y + j) 0) k ≡ 1) (add-comm i x)
+          (sym (bit-shr (getD t (y + j) 0) i x) ∙ and-on-r (getD z y 0) (getD t (y + j) 0 / 2 ^ i) x (ap (λ (n : ℕ). bit n x) (sym (w .1)) ∙ s)))
           (λ w. absurd (no-bit x (ap (λ (n : ℕ). bit n x) (sym (w .1)) ∙ s)))
           (and-at y);
       from = λ x y s u. ⊎-elim
-          (λ w. ap (λ (n : ℕ). bit n x) (w .1) ∙ on-and (getD z y 0) (getD t (y + j) 0 / 2 ^ i) x s (bit-shr (getD t (y + j) 0) i x ∙ subst (λ (k : ℕ). bit (getD t (y + j) 0) k ≡ 1) (add-comm x i) u))
+          (λ w. ap (λ (n : ℕ). bit n x) (w .1)
+          ∙ on-and (getD z y 0) (getD t (y + j) 0 / 2 ^ i) x s
+          (bit-shr (getD t (y + j) 0) i x ∙ subst (λ (k : ℕ). bit (getD t (y + j) 0) k ≡ 1) (add-comm x i) u))
           (λ w. absurd (no-bit x (ap (λ (n : ℕ). bit n x) (sym (w .0)) ∙ s)))
           (and-at y);
     }

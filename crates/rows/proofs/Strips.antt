@@ -17,7 +17,8 @@ use Rattle.rows.proofs.Sums.{Rows16, ones16}
 
 -- ---- rows with two more around them
 
-pub led-made : (a r : List ℕ) → Rows16 a → Filled (λ q. getD a (q - 2) 0) (λ q. 0) 2 18 r → (getD r 0 0 ≡ 0) × ((getD r 1 0 ≡ 0) × ((q : ℕ) → getD r (q + 2) 0 ≡ getD a q 0))
+pub led-made : (a r : List ℕ) → Rows16 a → Filled (λ q. getD a (q - 2) 0) (λ q. 0) 2 18 r
+    → (getD r 0 0 ≡ 0) × ((getD r 1 0 ≡ 0) × ((q : ℕ) → getD r (q + 2) 0 ≡ getD a q 0))
 led-made a r w f = (
   f .before 0 (omega arith),
   (
@@ -49,7 +50,10 @@ on-span b x e l = subst (λ (k : ℕ). bit (k * 65535) x ≡ 1) (sym e) (ones16 
 
 module _ (a m i c : ℕ) where
   moved-to : (x : ℕ) → bit (movedOf a m i c) x ≡ 1 → (bit m c ≡ 1) × ((i ≤ x) × (bit a (x - i) ≡ 1))
-  moved-to x h = (span-on (bit m c) x (omega arith) (and-on-r (a * 2 ^ i % 65536) (bit m c * 65535) x h), shl-on a i x (and-on-l (a * 2 ^ i % 65536) (bit m c * 65535) x h))
+  moved-to x h = (
+    span-on (bit m c) x (omega arith) (and-on-r (a * 2 ^ i % 65536) (bit m c * 65535) x h),
+    shl-on a i x (and-on-l (a * 2 ^ i % 65536) (bit m c * 65535) x h),
+  )
 
   moved-from : (x : ℕ) → bit m c ≡ 1 → bit a x ≡ 1 → x + i < 16 → bit (movedOf a m i c) (x + i) ≡ 1
   moved-from x e h l = on-and (a * 2 ^ i % 65536) (bit m c * 65535) (x + i) (on-shl a i x h l) (on-span (bit m c) (x + i) e l)
@@ -79,7 +83,8 @@ module _ (a m s x : ℕ) where
       (on-or-l (movedOf a m 0 s) (movedOf a m 1 (s + 1)) (x + 0) (moved-from a m 0 s x (subst (λ (c : ℕ). bit m c ≡ 1) (omega arith) e) h k))
   strip-from (suc zero) l e h k = on-or-l (bitOr (movedOf a m 0 s) (movedOf a m 1 (s + 1))) (movedOf a m 2 (s + 2)) (x + 1)
       (on-or-r (movedOf a m 0 s) (movedOf a m 1 (s + 1)) (x + 1) (moved-from a m 1 (s + 1) x e h k))
-  strip-from (suc (suc zero)) l e h k = on-or-r (bitOr (movedOf a m 0 s) (movedOf a m 1 (s + 1))) (movedOf a m 2 (s + 2)) (x + 2) (moved-from a m 2 (s + 2) x e h k)
+  strip-from (suc (suc zero)) l e h k =
+      on-or-r (bitOr (movedOf a m 0 s) (movedOf a m 1 (s + 1))) (movedOf a m 2 (s + 2)) (x + 2) (moved-from a m 2 (s + 2) x e h k)
   strip-from (suc (suc (suc i))) l e h k = absurd (omega arith)
 
 -- ---- the sum of rows and a mask: row q is of the rows q, q − 1 and q − 2, which stand two rows on
@@ -116,9 +121,14 @@ module _ (a u : List ℕ) (m : ℕ) (z : (getD u 0 0 ≡ 0) × ((getD u 1 0 ≡ 
       (ap (λ (n : ℕ). bit n x1) (ap (λ (n : ℕ). getD u n 0) g ∙ z .1 .1 y1) ∙ h) l
 
   in-row : (x1 y1 i j y : ℕ) → At a x1 y1 → AtMask m i j → x1 + i < 16 → y1 + j ≡ y → bit (sumRow u m y) (x1 + i) ≡ 1
-  in-row x1 y1 i zero y h c l e = on-or-l (bitOr (summed u m (y + 2) 0) (summed u m (y + 1) 3)) (summed u m y 6) (x1 + i) (on-or-l (summed u m (y + 2) 0) (summed u m (y + 1) 3) (x1 + i) (row-bit (y + 2) 0 0 i x1 y1 refl (omega arith) h c l))
-  in-row x1 y1 i (suc zero) y h c l e = on-or-l (bitOr (summed u m (y + 2) 0) (summed u m (y + 1) 3)) (summed u m y 6) (x1 + i) (on-or-r (summed u m (y + 2) 0) (summed u m (y + 1) 3) (x1 + i) (row-bit (y + 1) 3 1 i x1 y1 refl (omega arith) h c l))
-  in-row x1 y1 i (suc (suc zero)) y h c l e = on-or-r (bitOr (summed u m (y + 2) 0) (summed u m (y + 1) 3)) (summed u m y 6) (x1 + i) (row-bit y 6 2 i x1 y1 refl (omega arith) h c l)
+  in-row x1 y1 i zero y h c l e =
+      on-or-l (bitOr (summed u m (y + 2) 0) (summed u m (y + 1) 3)) (summed u m y 6) (x1 + i)
+      (on-or-l (summed u m (y + 2) 0) (summed u m (y + 1) 3) (x1 + i) (row-bit (y + 2) 0 0 i x1 y1 refl (omega arith) h c l))
+  in-row x1 y1 i (suc zero) y h c l e =
+      on-or-l (bitOr (summed u m (y + 2) 0) (summed u m (y + 1) 3)) (summed u m y 6) (x1 + i)
+      (on-or-r (summed u m (y + 2) 0) (summed u m (y + 1) 3) (x1 + i) (row-bit (y + 1) 3 1 i x1 y1 refl (omega arith) h c l))
+  in-row x1 y1 i (suc (suc zero)) y h c l e =
+      on-or-r (bitOr (summed u m (y + 2) 0) (summed u m (y + 1) 3)) (summed u m y 6) (x1 + i) (row-bit y 6 2 i x1 y1 refl (omega arith) h c l)
   in-row x1 y1 i (suc (suc (suc j))) y h c l e = let r = c .row in absurd (omega arith)
 
   pub grown-made : (r : List ℕ) → Filled (sumRow u m) (λ q. 0) 0 16 r → CutTo (Sum (At a) (AtMask m)) r
@@ -136,7 +146,8 @@ module _ (a u : List ℕ) (m : ℕ) (z : (getD u 0 0 ≡ 0) × ((getD u 1 0 ≡ 
     from = λ x y s l k.
         let e = s .at-x in
         subst (λ (n : ℕ). At r n y) e
-        (ap (λ (n : ℕ). bit n (s .x1 + s .x2)) (f .inside y (omega arith) k) ∙ in-row (s .x1) (s .y1) (s .x2) (s .y2) y (s .left) (s .right) (omega arith) (s .at-y));
+        (ap (λ (n : ℕ). bit n (s .x1 + s .x2)) (f .inside y (omega arith) k)
+        ∙ in-row (s .x1) (s .y1) (s .x2) (s .y2) y (s .left) (s .right) (omega arith) (s .at-y));
   }
 
 -- ---- residues: one cell of the mask, three of a row
@@ -157,9 +168,13 @@ module _ (t m i c x : ℕ) where
 module _ (t m s x : ℕ) where
   hold-to : bit (hold t m s) x ≡ 1 → (i : ℕ) → i < 3 → bit m (s + i) ≡ 1 → bit t (i + x) ≡ 1
   unfolding hold
-  hold-to h zero l e = held-to t m 0 s x (and-on-l (heldOf t m 0 s) (heldOf t m 1 (s + 1)) x (and-on-l (bitAnd (heldOf t m 0 s) (heldOf t m 1 (s + 1))) (heldOf t m 2 (s + 2)) x h))
+  hold-to h zero l e =
+      held-to t m 0 s x
+      (and-on-l (heldOf t m 0 s) (heldOf t m 1 (s + 1)) x (and-on-l (bitAnd (heldOf t m 0 s) (heldOf t m 1 (s + 1))) (heldOf t m 2 (s + 2)) x h))
       (subst (λ (c : ℕ). bit m c ≡ 1) (omega arith) e)
-  hold-to h (suc zero) l e = held-to t m 1 (s + 1) x (and-on-r (heldOf t m 0 s) (heldOf t m 1 (s + 1)) x (and-on-l (bitAnd (heldOf t m 0 s) (heldOf t m 1 (s + 1))) (heldOf t m 2 (s + 2)) x h)) e
+  hold-to h (suc zero) l e =
+      held-to t m 1 (s + 1) x
+      (and-on-r (heldOf t m 0 s) (heldOf t m 1 (s + 1)) x (and-on-l (bitAnd (heldOf t m 0 s) (heldOf t m 1 (s + 1))) (heldOf t m 2 (s + 2)) x h)) e
   hold-to h (suc (suc zero)) l e = held-to t m 2 (s + 2) x (and-on-r (bitAnd (heldOf t m 0 s) (heldOf t m 1 (s + 1))) (heldOf t m 2 (s + 2)) x h) e
   hold-to h (suc (suc (suc i))) l e = absurd (omega arith)
 
@@ -188,8 +203,12 @@ module _ (t u : List ℕ) (m : ℕ) (z : (q : ℕ) → getD u q 0 ≡ getD t q 0
       (ap (λ (n : ℕ). bit n (i + x)) (sym (z p)) ∙ hold-to (getD u p 0) m s x h i (c .column) (subst (λ (k : ℕ). bit m k ≡ 1) (omega arith) (c .set))))
 
   row-held : (x y i j : ℕ) → bit (restRow u m y) x ≡ 1 → AtMask m i j → At t (x + i) (y + j)
-  row-held x y i zero h c = held-row x y i 0 y 0 refl (omega arith) (and-on-l (left u m y 0) (left u m (y + 1) 3) x (and-on-l (bitAnd (left u m y 0) (left u m (y + 1) 3)) (left u m (y + 2) 6) x h)) c
-  row-held x y i (suc zero) h c = held-row x y i 1 (y + 1) 3 refl refl (and-on-r (left u m y 0) (left u m (y + 1) 3) x (and-on-l (bitAnd (left u m y 0) (left u m (y + 1) 3)) (left u m (y + 2) 6) x h)) c
+  row-held x y i zero h c =
+      held-row x y i 0 y 0 refl (omega arith)
+      (and-on-l (left u m y 0) (left u m (y + 1) 3) x (and-on-l (bitAnd (left u m y 0) (left u m (y + 1) 3)) (left u m (y + 2) 6) x h)) c
+  row-held x y i (suc zero) h c =
+      held-row x y i 1 (y + 1) 3 refl refl
+      (and-on-r (left u m y 0) (left u m (y + 1) 3) x (and-on-l (bitAnd (left u m y 0) (left u m (y + 1) 3)) (left u m (y + 2) 6) x h)) c
   row-held x y i (suc (suc zero)) h c = held-row x y i 2 (y + 2) 6 refl refl (and-on-r (bitAnd (left u m y 0) (left u m (y + 1) 3)) (left u m (y + 2) 6) x h) c
   row-held x y i (suc (suc (suc j))) h c = let r = c .row in absurd (omega arith)
 
@@ -206,6 +225,7 @@ module _ (t u : List ℕ) (m : ℕ) (z : (q : ℕ) → getD u q 0 ≡ getD t q 0
         (λ l. absurd (no-bit x (ap (λ (n : ℕ). bit n x) (sym (f .after y l)) ∙ h)))
         (lt-or-le y 16);
     from = λ x y h l k. ap (λ (n : ℕ). bit n x) (f .inside y (omega arith) k) ∙ on-and (bitAnd (left u m y 0) (left u m (y + 1) 3)) (left u m (y + 2) 6) x
-        (on-and (left u m y 0) (left u m (y + 1) 3) x (row-from x y 0 y 0 (omega arith) refl (omega arith) l h) (row-from x y 1 (y + 1) 3 (omega arith) refl refl l h))
+        (on-and (left u m y 0) (left u m (y + 1) 3) x (row-from x y 0 y 0 (omega arith) refl (omega arith) l h)
+        (row-from x y 1 (y + 1) 3 (omega arith) refl refl l h))
         (row-from x y 2 (y + 2) 6 (omega arith) refl refl l h);
   }

@@ -93,7 +93,17 @@ module _ (a b : List ℕ) where
   pub sum-more : Rows16 b → (n : ℕ) (r s : List ℕ) → SumTo a b n r → RowSum r a (getD b n 0) n 16 s → SumTo a b (n + 1) s
   sum-more wb n r s p o = record {
     to = λ x y h. ⊎-elim (p .to x y)
-        (λ w. record { x1 = w .1 .1 .x1; y1 = w .1 .1 .y1; x2 = w .0; y2 = n; left = w .1 .1 .was; right = w .1 .0; at-x = w .1 .1 .at-x; at-y = w .1 .1 .at-y })
+        (λ w.
+        record {
+          x1 = w .1 .1 .x1;
+          y1 = w .1 .1 .y1;
+          x2 = w .0;
+          y2 = n;
+          left = w .1 .1 .was;
+          right = w .1 .0;
+          at-x = w .1 .1 .at-x;
+          at-y = w .1 .1 .at-y;
+        })
         (o .to x y h);
     from = λ i j l u x y h v w. ⊎-elim
         (λ q. subst (λ (k : ℕ). At s (x + i) (y + k)) (sym q)
@@ -117,7 +127,8 @@ module _ (a b : List ℕ) where
     to = p .to;
     from = λ x y s u v.
         subst (λ (k : ℕ). At r k y) (s .at-x) (subst (λ (k : ℕ). At r (s .x1 + s .x2) k) (s .at-y)
-        (p .from (s .x2) (s .y2) (in-y b wb (s .x2) (s .y2) (s .right)) (s .right) (s .x1) (s .y1) (s .left) (omega (arith, s .at-x)) (omega (arith, s .at-y))));
+        (p .from (s .x2) (s .y2) (in-y b wb (s .x2) (s .y2) (s .right)) (s .right) (s .x1) (s .y1) (s .left) (omega (arith, s .at-x))
+        (omega (arith, s .at-y))));
   }
 
 -- ---- a word of ones
@@ -140,7 +151,8 @@ bit-same p q x f g = ⊎-elim
     (lt-or-le (bit p x) 1)
 
 pub rows-differ : (a b : List ℕ) → Rows16 a → Rows16 b → (q : ℕ) → (getD a q 0 ≡ getD b q 0 → ⊥) → Same (At a) (At b) → ⊥
-rows-differ a b wa wb q n s = n (bits-ext 16 (getD a q 0) (getD b q 0) (wa .words q) (wb .words q) (λ x l. bit-same (getD a q 0) (getD b q 0) x (s .to x q) (s .from x q)))
+rows-differ a b wa wb q n s =
+    n (bits-ext 16 (getD a q 0) (getD b q 0) (wa .words q) (wb .words q) (λ x l. bit-same (getD a q 0) (getD b q 0) x (s .to x q) (s .from x q)))
 
 pub rows-same : (a b : List ℕ) → Rows16 a → Rows16 b → ((q : ℕ) → q < 16 → getD a q 0 ≡ getD b q 0) → Same (At a) (At b)
 rows-same a b wa wb e = record {

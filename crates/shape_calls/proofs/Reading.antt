@@ -34,7 +34,8 @@ map-same f xs ys h b k = let r = In-map f xs b .0 k in In-map f ys b .1 (r .0, h
 
 -- ---- any list
 
-module _ (ws : List ℕ) (w : Window) (W : Rows16 (w .rows)) (ex : w .ax ≡ heldAnchor ws .0) (ey : w .ay ≡ heldAnchor ws .1) (S : Same (At (w .rows)) (CellsOf (heldCells ws))) where
+module _ (ws : List ℕ) (w : Window) (W : Rows16 (w .rows)) (ex : w .ax ≡ heldAnchor ws .0) (ey : w .ay ≡ heldAnchor ws .1)
+    (S : Same (At (w .rows)) (CellsOf (heldCells ws))) where
   -- the cells of the rows are those that the list holds
   cell-to : (k : Cell) → In (cellsOf (w .rows)) k → In (heldCells ws) k
   cell-to k h = S .to (k .0) (k .1) (cells-at (w .rows) W (k .0) (k .1) .0 h)
@@ -53,7 +54,11 @@ module _ (ws : List ℕ) (w : Window) (W : Rows16 (w .rows)) (ex : w .ax ≡ hel
   anchored : SomeHeld ws → Anchored w
   anchored k =
       let a = anchor-small (getD ws 0 0) in
-      record { in-x = omega (arith, a .0); in-y = omega (arith, a .1); some = record { x = k .0 .0; y = k .0 .1; cell = cells-at (w .rows) W (k .0 .0) (k .0 .1) .0 (cell-from (k .0) (k .1)) } }
+      record {
+        in-x = omega (arith, a .0);
+        in-y = omega (arith, a .1);
+        some = record { x = k .0 .0; y = k .0 .1; cell = cells-at (w .rows) W (k .0 .0) (k .0 .1) .0 (cell-from (k .0) (k .1)) };
+      }
 
   some-held : Anchored w → SomeHeld ws
   some-held a = let s = a .some in ((s .x, s .y), S .to (s .x) (s .y) (s .cell))
@@ -76,7 +81,8 @@ shape-read ws e r M =
     let long = not-or (ltb (length ws) 2) (ltb 17 (length ws)) .0 (c .0) .0 in
     let full = not-or (any emptyRow (rows ws)) (anyNext notRising (rows ws)) .0 (c .1 .1 .1 .0) .0 in
     let some = some-cell ws (nltb→le (length ws) 2 long) full in
-    let m = M .made (some .0, subst (λ l. In l (some .0)) (sym cells) (some .1)) (subst (λ l. T (not (outOfRange l))) (sym points) (in-range ws (shapePoints ws) (λ p h. h))) in
+    let m = M .made (some .0, subst (λ l. In l (some .0)) (sym cells) (some .1))
+    (subst (λ l. T (not (outOfRange l))) (sym points) (in-range ws (shapePoints ws) (λ p h. h))) in
     record { sound = m .0; points = subst (λ l. In (pointsOf r) ≐ In l) points (m .1) }
   where
     c : Clear (shapeTests ws)

@@ -51,7 +51,8 @@ module _ (ws : List ℕ) (c : Clear (planTests ws)) where
   plan-sum p = (
     λ h. let q = sum-points ms (p -ᵖ at px py) .1 (plan-points ws p .0 h) in
         record { x = q .x; y = q .y; cell = q .cell; at = ap (λ z. z +ᵖ at px py) (sym (+ᵖ-origin (point (q .x, q .y))) ∙ q .at) ∙ subᵖ-cancel p (at px py) },
-    λ h. let e : point (h .x, h .y) +ᵖ origin ≡ p -ᵖ at px py = +ᵖ-origin (point (h .x, h .y)) ∙ sym (ap (λ z. z -ᵖ at px py) (sym (h .at)) ∙ +ᵖ-cancel (point (h .x, h .y)) (at px py)) in
+    λ h. let e : point (h .x, h .y) +ᵖ origin ≡ p -ᵖ at px py = +ᵖ-origin (point (h .x, h .y))
+        ∙ sym (ap (λ z. z -ᵖ at px py) (sym (h .at)) ∙ +ᵖ-cancel (point (h .x, h .y)) (at px py)) in
         plan-points ws p .1 (sum-points ms (p -ᵖ at px py) .0 (record { x = h .x; y = h .y; cell = h .cell; at = e })),
   )
 
@@ -76,8 +77,10 @@ module _ (ws : List ℕ) (c : Clear (planTests ws)) where
       let v = L .y in
       let eu = L .x-zero in
       let ev = L .y-zero in
-      let m = f .0 .apart (point (x, y) +ᵖ at px py) (point u +ᵖ at px py) (x + px) (u .0 + px) p (cell-in (u .0) (u .1) (sum-cell u (L .x-in))) (coordinate-add x px) (coordinate-add (u .0) px) in
-      let n = f .1 .apart (point (x, y) +ᵖ at px py) (point v +ᵖ at px py) (y + py) (v .1 + py) p (cell-in (v .0) (v .1) (sum-cell v (L .y-in))) (coordinate-add y py) (coordinate-add (v .1) py) in
+      let m = f .0 .apart (point (x, y) +ᵖ at px py) (point u +ᵖ at px py) (x + px) (u .0 + px) p (cell-in (u .0) (u .1) (sum-cell u (L .x-in)))
+      (coordinate-add x px) (coordinate-add (u .0) px) in
+      let n = f .1 .apart (point (x, y) +ᵖ at px py) (point v +ᵖ at px py) (y + py) (v .1 + py) p (cell-in (v .0) (v .1) (sum-cell v (L .y-in)))
+      (coordinate-add y py) (coordinate-add (v .1) py) in
       (omega arith, omega arith)
 
   module _ (r : List ℕ) (w : Rows16 r) (R : SumRows (heldMasks ws) r) where
@@ -91,7 +94,8 @@ module _ (ws : List ℕ) (c : Clear (planTests ws)) where
     whole x y k = let b = inside x y k in rows-are .from x y k (omega arith) (omega arith)
 
     points-shape : In (pointsOf shape) ≐ In (planPoints ws)
-    points-shape = ≐-trans (points-of shape w) (≐-trans (points-same (At r) (AtSum ms) (at px py) (record { to = rows-are .to; from = whole })) (≐-sym plan-sum))
+    points-shape =
+        ≐-trans (points-of shape w) (≐-trans (points-same (At r) (AtSum ms) (at px py) (record { to = rows-are .to; from = whole })) (≐-sym plan-sum))
 
     shape-sound : Sound shape
     shape-sound =
@@ -111,4 +115,5 @@ module _ (ws : List ℕ) (c : Clear (planTests ws)) where
         let fx : px ≡ x = sym (ex ∙ ap (λ k. k .0) e) in
         let fy : py ≡ y = sym (ey ∙ ap (λ k. k .1) e) in
         subst (λ (n : ℕ). StandsFor (planPoints ws) (record { fits = true; x = n; y = y; rows = r })) fx
-        (subst (λ (n : ℕ). StandsFor (planPoints ws) (record { fits = true; x = px; y = n; rows = r })) fy (record { sound = shape-sound; points = points-shape }))
+        (subst (λ (n : ℕ). StandsFor (planPoints ws) (record { fits = true; x = px; y = n; rows = r })) fy
+        (record { sound = shape-sound; points = points-shape }))

@@ -9,7 +9,8 @@ use Rattle.plane.specs.Lists.{upTo}
 use Rattle.plane.specs.Point.{_+ᵖ_, negᵖ}
 use Rattle.words.specs.Ground.{firstOf, stated, result, refusal}
 use Rattle.words.specs.declared.Answer.{Answer}
-use Rattle.shapes.specs.Calls.{movedPoints, movingTests, joiningTests, turningTests, summedPoints, joinedPoints, summingTests, Moved, Joined, Summed, TurnedBack}
+use Rattle.shapes.specs.Calls.{movedPoints, movingTests, joiningTests, turningTests, summedPoints, joinedPoints, summingTests, Moved, Joined}
+use Rattle.shapes.specs.Calls.{Summed, TurnedBack}
 use Rattle.shapes.specs.Listed.{listed}
 use Rattle.shapes.specs.Plan.{planTests, planPoints}
 use Rattle.shapes.specs.Shape.{shapeTests, shapePoints, outOfRange}
@@ -196,7 +197,8 @@ range-below : (firstOf (movingTests (0x10000000 ∷ 0x20000001 ∷ []) (negsuc 1
 unfolding shapeTests shapePoints outOfRange _+ᵖ_ negᵖ
 range-below = (refl, refl)
 
-range-y : (firstOf (movingTests (0x10000000 ∷ 0x20000001 ∷ []) (pos 0, pos 16) []) ≡ 8) × (firstOf (movingTests (0x10000000 ∷ 0x20000001 ∷ []) (pos 0, negsuc 15) []) ≡ 8)
+range-y : (firstOf (movingTests (0x10000000 ∷ 0x20000001 ∷ []) (pos 0, pos 16) []) ≡ 8)
+    × (firstOf (movingTests (0x10000000 ∷ 0x20000001 ∷ []) (pos 0, negsuc 15) []) ≡ 8)
 unfolding shapeTests shapePoints outOfRange _+ᵖ_ negᵖ
 range-y = (refl, refl)
 
@@ -248,6 +250,7 @@ unfolding planTests listed planPoints _+ᵖ_ negᵖ
 turns r out′ p = (p .done refl .answer, p .done refl .words)
 
 -- and a refusal leaves all of it
-moves-not : (r : Answer) (out′ : List ℕ) → Moved (0x10000000 ∷ 0x20000001 ∷ []) (pos 16, pos 0) (replicate 17 7) r out′ → (stated r ≡ refusal 8) × (out′ ≡ replicate 17 7)
+moves-not : (r : Answer) (out′ : List ℕ) → Moved (0x10000000 ∷ 0x20000001 ∷ []) (pos 16, pos 0) (replicate 17 7) r out′
+    → (stated r ≡ refusal 8) × (out′ ≡ replicate 17 7)
 unfolding shapeTests shapePoints outOfRange _+ᵖ_ negᵖ
 moves-not r out′ p = p .refused (λ e. let n : _≡_ {A = ℕ} 8 0 = e in omega arith)

@@ -79,7 +79,9 @@ range-is A d w h c W H = ap₂ (λ a b. a || b) (ap₂ (λ m n. ltb 15 m || ltb 
     ends = same-test (any far A) (offside (d .0) w || offside (d .1) h) to from
       where
         to : T (any far A) → T (offside (d .0) w || offside (d .1) h)
-        to t = let r = In-any far A .0 t in T-or (offside (d .0) w) (offside (d .1) h) .1 (pick (r .0) (r .1) (T-or (tooFar (r .0 .0)) (tooFar (r .0 .1)) .0 (r .2)))
+        to t =
+            let r = In-any far A .0 t in
+            T-or (offside (d .0) w) (offside (d .1) h) .1 (pick (r .0) (r .1) (T-or (tooFar (r .0 .0)) (tooFar (r .0 .1)) .0 (r .2)))
           where
             pick : (p : Point) → In A p → T (tooFar (p .0)) ⊎ T (tooFar (p .1)) → T (offside (d .0) w) ⊎ T (offside (d .1) h)
             pick p k (inl u) = inl (far-end x-of A (d .0) w cx W p k u)
@@ -134,7 +136,9 @@ biased-offside x n = ap₂ (λ a b. a || b) (biased-far x) (ap tooFar shift ∙ 
     shift = +ℤ-assoc (pos x) (negℤ (pos 15)) (pos n) ∙ ap (λ z. pos x +ℤ z) (+ℤ-comm (negℤ (pos 15)) (pos n)) ∙ sym (+ℤ-assoc (pos x) (pos n) (negℤ (pos 15)))
 
     wider : (ltb 30 x || ltb 30 (x + n)) ≡ ltb 30 (x + n)
-    wider = same-test (ltb 30 x || ltb 30 (x + n)) (ltb 30 (x + n)) (λ t. pick (T-or (ltb 30 x) (ltb 30 (x + n)) .0 t)) (λ t. T-or (ltb 30 x) (ltb 30 (x + n)) .1 (inr t))
+    wider =
+        same-test (ltb 30 x || ltb 30 (x + n)) (ltb 30 (x + n)) (λ t. pick (T-or (ltb 30 x) (ltb 30 (x + n)) .0 t))
+        (λ t. T-or (ltb 30 x) (ltb 30 (x + n)) .1 (inr t))
       where
         pick : T (ltb 30 x) ⊎ T (ltb 30 (x + n)) → T (ltb 30 (x + n))
         pick (inl t) = let l = ltb→lt 30 x t in lt→ltb 30 (x + n) (omega arith)

@@ -194,7 +194,8 @@ module _ (ws : List ℕ) (S : Shaped ws) (d : Point) (ms : List ℕ) (P : PlanOf
   pub plan-clear : Clear (planTests (planWords d ms))
   plan-clear =
       let F = fields in
-      words-clear d ms (F .px) (F .py) (F .ex) (F .ey) (F .hx) (F .hy) (P .stages) few (P .sorted) (in-range ws (planPoints (planWords d ms)) (λ p. plan-stands p .0))
+      words-clear d ms (F .px) (F .py) (F .ex) (F .ey) (F .hx) (F .hy) (P .stages) few (P .sorted)
+      (in-range ws (planPoints (planWords d ms)) (λ p. plan-stands p .0))
 
   -- turned back, they are listed as the shape's points are
   pub plan-listed : listed (planPoints (planWords d ms)) ≡ listed (shapePoints ws)

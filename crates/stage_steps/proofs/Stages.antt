@@ -74,7 +74,8 @@ unfolding right
 right-table = tt
 
 module _ (m : ℕ) (t : T (stage m)) where
-  parts : (T (eqb (lastColumn m) (along x-of m)) × T (eqb (lastRow m) (along y-of m))) × (T (fits-one false m) × T (fits-one true m)) × T (leb 1 (lastColumn m + lastRow m))
+  parts : (T (eqb (lastColumn m) (along x-of m)) × T (eqb (lastRow m) (along y-of m))) × (T (fits-one false m) × T (fits-one true m))
+      × T (leb 1 (lastColumn m + lastRow m))
   unfolding right
   parts = go (T-or (not (stage m)) _ .0 (each-below right 512 right-table m (stage-below m t)))
     where
@@ -85,7 +86,8 @@ module _ (m : ℕ) (t : T (stage m)) where
       fs = fits-one false m && fits-one true m
 
       go : T (not (stage m)) ⊎ T (ex && fs && leb 1 (lastColumn m + lastRow m))
-          → (T (eqb (lastColumn m) (along x-of m)) × T (eqb (lastRow m) (along y-of m))) × (T (fits-one false m) × T (fits-one true m)) × T (leb 1 (lastColumn m + lastRow m))
+          → (T (eqb (lastColumn m) (along x-of m)) × T (eqb (lastRow m) (along y-of m))) × (T (fits-one false m) × T (fits-one true m))
+          × T (leb 1 (lastColumn m + lastRow m))
       go (inl n) = absurd (clash (stage m) n t)
       go (inr a) =
           let u = T-and (ex && fs) (leb 1 (lastColumn m + lastRow m)) .0 a in
@@ -104,7 +106,8 @@ module _ (m : ℕ) (t : T (stage m)) where
 
   both : (down : Bool) → T (all (λ c. leb (numberOf down c) (reach down m)) (maskCells m)) × T (any (λ c. eqb (numberOf down c) (reach down m)) (maskCells m))
   unfolding fits-one
-  both down = T-and (all (λ c. leb (numberOf down c) (reach down m)) (maskCells m)) (any (λ c. eqb (numberOf down c) (reach down m)) (maskCells m)) .0 (one down)
+  both down =
+      T-and (all (λ c. leb (numberOf down c) (reach down m)) (maskCells m)) (any (λ c. eqb (numberOf down c) (reach down m)) (maskCells m)) .0 (one down)
 
   pub reach-all : (down : Bool) (c : Cell) → In (maskCells m) c → numberOf down c ≤ reach down m
   reach-all down c h = leb→le (numberOf down c) (reach down m) (In-all (λ c. leb (numberOf down c) (reach down m)) (maskCells m) (both down .0) c h)

@@ -69,7 +69,8 @@ pub further-then : (s t r : Reading) (xs ys : List ℕ) → Further s xs t → F
 further-then s t r xs ys F G = record { held = λ seen H. subst (λ l. Held l r) (append-assoc seen xs ys) (G .held (seen ++ xs) (F .held seen H)) }
 
 -- the next byte of a list
-pub further-more : (s t r : Reading) (xs : List ℕ) (i : ℕ) → i < length xs → Further s (take i xs) t → Further t (getD xs i 0 ∷ []) r → Further s (take (i + 1) xs) r
+pub further-more : (s t r : Reading) (xs : List ℕ) (i : ℕ) → i < length xs → Further s (take i xs) t → Further t (getD xs i 0 ∷ []) r
+    → Further s (take (i + 1) xs) r
 further-more s t r xs i h F G =
     subst (λ l. Further s l r) (sym (ap (λ k. take k xs) (add-one i) ∙ take-suc xs i 0 h)) (further-then s t r (take i xs) (getD xs i 0 ∷ []) F G)
 
@@ -115,7 +116,8 @@ spoils s r b f wrong = go (s .bad) refl
 -- a byte that is neither a digit nor a line feed comes next nowhere
 pub no-next : (k b : ℕ) → ¬ (b ≡ 10) → ((n : ℕ) → n < 16 → ¬ (b ≡ digit n)) → k ≤ 8 → ¬ Next k b
 no-next k b feed none h next =
-    ⊎-elim (λ t. let d = next .0 (ltb→lt k 8 t) in none (d .0) (d .1 .0) (d .1 .1)) (λ t. feed (next .1 (let l = nltb→le k 8 t in omega arith))) (T-dec (ltb k 8))
+    ⊎-elim (λ t. let d = next .0 (ltb→lt k 8 t) in none (d .0) (d .1 .0) (d .1 .1)) (λ t. feed (next .1 (let l = nltb→le k 8 t in omega arith)))
+    (T-dec (ltb k 8))
 
 -- ---- a digit
 
@@ -161,7 +163,8 @@ kept-more ls v h =
     let n = length-append ls (v ∷ []) in
     take-all 18 (ls ++ v ∷ []) (omega arith) ∙ ap (λ l. l ++ v ∷ []) (sym (take-all 18 ls (omega arith)))
 
-kept-next : (ls ws : List ℕ) (n v : ℕ) (r : List ℕ) → n ≡ min 18 (length ls) → take n ws ≡ take 18 ls → Updated ws n v r → take (min 18 (n + 1)) r ≡ take 18 (ls ++ v ∷ [])
+kept-next : (ls ws : List ℕ) (n v : ℕ) (r : List ℕ) → n ≡ min 18 (length ls) → take n ws ≡ take 18 ls → Updated ws n v r
+    → take (min 18 (n + 1)) r ≡ take 18 (ls ++ v ∷ [])
 kept-next ls ws n v r c k K = ⊎-elim room full (T-dec (ltb n 18))
   where
     room : T (ltb n 18) → take (min 18 (n + 1)) r ≡ take 18 (ls ++ v ∷ [])

@@ -37,12 +37,14 @@ past-then p q = record { size = q .size ∙ p .size; rest = q .rest ∙ p .rest 
 -- images that have room for the grid have it for a stage and for the cut
 module _ {W H : ℕ} {i j : List ℕ} (r : Room W H i j) (p d : List ℕ) (hp : gridSize W H ≤ length p) (hd : gridSize W H ≤ length d) where
   pub room-stage : T (stageFits free (W + 15) (H + 15) (length p) (length d))
-  room-stage = let s = sides W H (r .sides) in grid-stage W H (s .0) (s .1) (length p) (length d) (omega (arith, plane-fits W H)) (omega (arith, plane-fits W H))
+  room-stage =
+      let s = sides W H (r .sides) in grid-stage W H (s .0) (s .1) (length p) (length d) (omega (arith, plane-fits W H)) (omega (arith, plane-fits W H))
 
   pub room-cut : (a b : ℕ) → a ≤ 30 → b ≤ 30 → T (unpackFits W H (W + 15) (H + 15) a b (length p) (length d))
   room-cut a b ha hb =
       let s = sides W H (r .sides) in
-      grid-unpack W H (s .0) (s .1) W H a b (length p) (length d) (omega arith) (omega arith) ha hb (omega (arith, plane-fits W H)) (omega (arith, frame-in-grid W H))
+      grid-unpack W H (s .0) (s .1) W H a b (length p) (length d) (omega arith) (omega arith) ha hb (omega (arith, plane-fits W H))
+      (omega (arith, frame-in-grid W H))
 
 -- ---- one turn
 
@@ -80,7 +82,8 @@ either true n i j h k = h
 either false n i j h k = k
 
 -- what holds of the image that stands and of the other holds of the first and of the second
-pub same-either : {B : Type 0} (f : List ℕ → B) (b : Bool) (i j i′ j′ : List ℕ) → f (cond b i′ j′) ≡ f (cond b i j) → f (cond b j′ i′) ≡ f (cond b j i) → (f i′ ≡ f i) × (f j′ ≡ f j)
+pub same-either : {B : Type 0} (f : List ℕ → B) (b : Bool) (i j i′ j′ : List ℕ) → f (cond b i′ j′) ≡ f (cond b i j) → f (cond b j′ i′) ≡ f (cond b j i)
+    → (f i′ ≡ f i) × (f j′ ≡ f j)
 same-either f true i j i′ j′ p q = (p, q)
 same-either f false i j i′ j′ p q = (q, p)
 
@@ -110,17 +113,20 @@ module _ {erode : Bool} {plan : List ℕ} {W H t : ℕ} {i j : List ℕ} where
   pub midway-start : Midway erode plan W H t i j 2 t i j
   midway-start = record { stands = λ g. g; shown = λ g s. s; left = λ g. refl; first = past-same; second = past-same; count = refl }
 
-  pub midway-more : {k n : ℕ} {i′ j′ i″ j″ : List ℕ} → Midway erode plan W H t i j k n i′ j′ → Turned erode (stageMask (getD plan k 0)) W H n i′ j′ i″ j″ → k < length plan
+  pub midway-more : {k n : ℕ} {i′ j′ i″ j″ : List ℕ} → Midway erode plan W H t i j k n i′ j′ → Turned erode (stageMask (getD plan k 0)) W H n i′ j′ i″ j″
+      → k < length plan
       → Midway erode plan W H t i j (k + 1) (n + 1) i″ j″
   midway-more {k} {n} {i′} {j′} {i″} {j″} m s h =
       let b = both-past (eqb (n % 2) 0) i′ j′ i″ j″ (s .from) (kept-past W H (s .to .kept)) in record {
         stands = λ g. once erode free W H (stageMask (getD plan k 0)) (m .stands g);
         shown = λ g u.
-            subst (λ (x : List ℕ). Shows (W + 15) (H + 15) (grid free W H (once erode free W H (stageMask (getD plan k 0)) (m .stands g))) x) (sym (stands-next n i″ j″))
+            subst (λ (x : List ℕ). Shows (W + 15) (H + 15) (grid free W H (once erode free W H (stageMask (getD plan k 0)) (m .stands g))) x)
+            (sym (stands-next n i″ j″))
             (subst (λ (f : Point → ℕ). Shows (W + 15) (H + 15) f (resultImage n i″ j″)) (after-once erode free W H (stageMask (getD plan k 0)) (m .stands g))
             (s .to .shown (grid free W H (m .stands g)) (m .shown g u)));
         left = λ g.
-            ap (λ (q : ℕ). through (once erode free W H) (map stageMask (drop q plan)) (once erode free W H (stageMask (getD plan k 0)) (m .stands g))) (add-one k)
+            ap (λ (q : ℕ). through (once erode free W H) (map stageMask (drop q plan)) (once erode free W H (stageMask (getD plan k 0)) (m .stands g)))
+            (add-one k)
             ∙ sym (ap (λ ws. through (once erode free W H) (map stageMask ws) (m .stands g)) (drop-cons plan k 0 h)) ∙ m .left g;
         first = past-then (m .first) (b .0);
         second = past-then (m .second) (b .1);
@@ -133,5 +139,6 @@ module _ {erode : Bool} {plan : List ℕ} {W H t : ℕ} {i j : List ℕ} where
     first = m .first;
     second = m .second;
     shown = λ g u. subst (λ (x : List ℕ). Shown W H n x i′ j′)
-        (ap (λ ws. through (once erode free W H) (map stageMask ws) (m .stands g)) (sym (drop-of-length-le plan {i = k} (omega arith))) ∙ m .left g) (m .shown g u);
+        (ap (λ ws. through (once erode free W H) (map stageMask ws) (m .stands g)) (sym (drop-of-length-le plan {i = k} (omega arith))) ∙ m .left g)
+        (m .shown g u);
   }

@@ -22,13 +22,16 @@ most plan l e = omega (arith, length-map (drop 2 plan) stageMask, length-drop 2 
 module _ {plan : List ℕ} {W H : ℕ} {i j : List ℕ} (op : Operation) where
   pub dilation-ends : {r : ℕ} {i′ j′ : List ℕ} → op ≡ Dilation → Passed false plan W H 0 i j r i′ j′ → Ended op plan W H i j r i′ j′
   unfolding lastGrid
-  dilation-ends {r} {i′} {j′} e p = subst (λ o. Ended o plan W H i j r i′ j′) (sym e) (record { count = omega (arith, p .count); first = p .first; second = p .second; shown = p .shown })
+  dilation-ends {r} {i′} {j′} e p =
+      subst (λ o. Ended o plan W H i j r i′ j′) (sym e) (record { count = omega (arith, p .count); first = p .first; second = p .second; shown = p .shown })
 
   pub erosion-ends : {r : ℕ} {i′ j′ : List ℕ} → op ≡ Erosion → Passed true plan W H 0 i j r i′ j′ → Ended op plan W H i j r i′ j′
   unfolding lastGrid
-  erosion-ends {r} {i′} {j′} e p = subst (λ o. Ended o plan W H i j r i′ j′) (sym e) (record { count = omega (arith, p .count); first = p .first; second = p .second; shown = p .shown })
+  erosion-ends {r} {i′} {j′} e p =
+      subst (λ o. Ended o plan W H i j r i′ j′) (sym e) (record { count = omega (arith, p .count); first = p .first; second = p .second; shown = p .shown })
 
-  pub opening-ends : {n r : ℕ} {i′ j′ i″ j″ : List ℕ} → op ≡ Opening → Passed true plan W H 0 i j n i′ j′ → Passed false plan W H n i′ j′ r i″ j″ → Ended op plan W H i j r i″ j″
+  pub opening-ends : {n r : ℕ} {i′ j′ i″ j″ : List ℕ} → op ≡ Opening → Passed true plan W H 0 i j n i′ j′ → Passed false plan W H n i′ j′ r i″ j″
+      → Ended op plan W H i j r i″ j″
   unfolding lastGrid
   opening-ends {n} {r} {i′} {j′} {i″} {j″} e p q = subst (λ o. Ended o plan W H i j r i″ j″) (sym e) (record {
     count = omega (arith, p .count, q .count);
@@ -37,7 +40,8 @@ module _ {plan : List ℕ} {W H : ℕ} {i j : List ℕ} (op : Operation) where
     shown = λ g u. q .shown (through (once true free W H) (planMasks plan) g) (p .shown g u);
   })
 
-  pub closing-ends : {n r : ℕ} {i′ j′ i″ j″ : List ℕ} → op ≡ Closing → Passed false plan W H 0 i j n i′ j′ → Passed true plan W H n i′ j′ r i″ j″ → Ended op plan W H i j r i″ j″
+  pub closing-ends : {n r : ℕ} {i′ j′ i″ j″ : List ℕ} → op ≡ Closing → Passed false plan W H 0 i j n i′ j′ → Passed true plan W H n i′ j′ r i″ j″
+      → Ended op plan W H i j r i″ j″
   unfolding lastGrid
   closing-ends {n} {r} {i′} {j′} {i″} {j″} e p q = subst (λ o. Ended o plan W H i j r i″ j″) (sym e) (record {
     count = omega (arith, p .count, q .count);

@@ -65,10 +65,12 @@ cutAt W H a b p = cutOut free W H (W + 15) (H + 15) a b (planeCells (W + 15) (H 
 
 -- the cut from one image into the other, at the distances that were worked out
 module _ {op : Operation} (place : ℕ) {W H t a b : ℕ} {i j : List ℕ} where
-  pub away-first : {j′ : List ℕ} → a ≡ distance op (placeX place) → b ≡ distance op (placeY place) → t % 2 ≡ 0 → j′ ≡ overFront (W * H) (cutAt W H a b i) j → CutAway op place W H t i j i j′
+  pub away-first : {j′ : List ℕ} → a ≡ distance op (placeX place) → b ≡ distance op (placeY place) → t % 2 ≡ 0 → j′ ≡ overFront (W * H) (cutAt W H a b i) j
+      → CutAway op place W H t i j i j′
   away-first p q e c = let v = eq-eqb (t % 2) 0 e in record { from = rw v; to = rw (v, sym p, sym q) c }
 
-  pub away-second : {i′ : List ℕ} → a ≡ distance op (placeX place) → b ≡ distance op (placeY place) → (t % 2 ≡ 0 → ⊥) → i′ ≡ overFront (W * H) (cutAt W H a b j) i → CutAway op place W H t i j i′ j
+  pub away-second : {i′ : List ℕ} → a ≡ distance op (placeX place) → b ≡ distance op (placeY place) → (t % 2 ≡ 0 → ⊥)
+      → i′ ≡ overFront (W * H) (cutAt W H a b j) i → CutAway op place W H t i j i′ j
   away-second p q e c = let v = ne-eqb (t % 2) 0 e in record { from = rw v; to = rw (v, sym p, sym q) c }
 
 -- the distances are small

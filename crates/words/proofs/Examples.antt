@@ -7,7 +7,8 @@ use Rattle.plane.proofs.Tests.{eq-eqb}
 use Rattle.words.specs.declared.Word.the-variants.{Anchor, Row, Head, Place, Stage, Unused}
 use Rattle.words.specs.Ground.{Test, firstOf, both, Promised}
 use Rattle.words.specs.Read.{wordOf}
-use Rattle.words.specs.Word.{kind, anchorKind, rowKind, headKind, placeKind, stageKind, anchorX, anchorY, anchorWord, rowY, rowColumns, rowWord, headCount, headWord, placeX, placeY, placeWord, stageMask, stageWord, extraBit, wrongKind}
+use Rattle.words.specs.Word.{kind, anchorKind, rowKind, headKind, placeKind, stageKind, anchorX, anchorY, anchorWord, rowY, rowColumns}
+use Rattle.words.specs.Word.{rowWord, headCount, headWord, placeX, placeY, placeWord, stageMask, stageWord, extraBit, wrongKind}
 use Rattle.words.proofs.Refusals.{promised-done, promised-refusal}
 use Rattle.words.proofs.Tested.{promised-number}
 

@@ -51,8 +51,10 @@ first-known (x ∷ ts) t =
     cond-ind (x .1) (x .0) (firstOf ts) (λ n. (n ≡ 0) ⊎ T (isGround n)) (λ _. inr (u .0)) (λ _. first-known ts (u .1))
 
 -- a state that is left as it is with a refusal, and one that the work leaves otherwise; of whatever type the answer is, where it can refuse by each ground
-pub can-promise : {A S : Type 0} (Refuses : A → ℕ → Type 0) (refuse : Ground → A) → ((g : Ground) → Refuses (refuse g) (numberOf g)) → (ts : List Test) → T (known ts)
-    → (same : S) (U : S → Type 0) (W : A → S → Type 0) → U same → (firstOf ts ≡ 0 → (r : A) × (s : S) × W r s) → (r : A) × (s : S) × Promised ts (Refuses r) (U s) (W r s)
+pub can-promise : {A S : Type 0} (Refuses : A → ℕ → Type 0) (refuse : Ground → A) → ((g : Ground) → Refuses (refuse g) (numberOf g)) → (ts : List Test)
+    → T (known ts)
+    → (same : S) (U : S → Type 0) (W : A → S → Type 0) → U same → (firstOf ts ≡ 0 → (r : A) × (s : S) × W r s)
+    → (r : A) × (s : S) × Promised ts (Refuses r) (U s) (W r s)
 can-promise {A} {S} Refuses refuse says ts t same U W u w = go (T-dec (eqb (firstOf ts) 0)) (first-known ts t)
   where
     Kept : Type 0
@@ -65,8 +67,11 @@ can-promise {A} {S} Refuses refuse says ts t same U W u w = go (T-dec (eqb (firs
     go (inl e) k = done (eqb→eq (firstOf ts) 0 e)
     go (inr n) (inl e) = done e
     go (inr n) (inr k) =
-        let g = groundOf (firstOf ts) in
-        (refuse g, same, promised-refusal ts (λ e. clash (eqb (firstOf ts) 0) n (eq-eqb e)) (subst (Refuses (refuse g)) (number-back (firstOf ts) k) (says g)) u)
+        let g = groundOf (firstOf ts) in (
+          refuse g,
+          same,
+          promised-refusal ts (λ e. clash (eqb (firstOf ts) 0) n (eq-eqb e)) (subst (Refuses (refuse g)) (number-back (firstOf ts) k) (says g)) u,
+        )
 
 pub can-keep : {S : Type 0} (ts : List Test) → T (known ts) → (same : S) (U : S → Type 0) (W : Answer → S → Type 0) → U same
     → (firstOf ts ≡ 0 → (r : Answer) × (s : S) × W r s) → (r : Answer) × (s : S) × Answered ts r (U s) (W r s)

@@ -11,7 +11,8 @@ use Rattle.plane.specs.Lists.{all}
 use Rattle.plane.proofs.Tests.{T-and, not-or, eq-eqb}
 use Rattle.words.specs.Ground.{Test, firstOf, numberOf, stated, result, refusal, both, Tried, Promised}
 use Rattle.words.specs.declared.Ground.{Ground}
-use Rattle.words.specs.declared.Ground.the-variants.{ListLength, WordKind, ExtraBit, RowOrder, StageCount, PlaceField, StageMask, OutOfRange, OutputLength, NoChain, FrameSize, FrameLength, CellValue, ImageLength}
+use Rattle.words.specs.declared.Ground.the-variants.{ListLength, WordKind, ExtraBit, RowOrder, StageCount, PlaceField, StageMask, OutOfRange}
+use Rattle.words.specs.declared.Ground.the-variants.{OutputLength, NoChain, FrameSize, FrameLength, CellValue, ImageLength}
 use Rattle.words.specs.declared.Answer.{Answer}
 use Rattle.words.specs.declared.Answer.the-variants.{Done, Refused}
 
@@ -78,7 +79,8 @@ pub first-append : (ts us : List Test) → firstOf ts ≢ 0 → firstOf (ts ++ u
 first-append [] us n = absurd (n refl)
 first-append (t ∷ ts) us n = go (t .1) n (first-append ts us)
   where
-    go : (b : Bool) → cond b (t .0) (firstOf ts) ≢ 0 → (firstOf ts ≢ 0 → firstOf (ts ++ us) ≡ firstOf ts) → cond b (t .0) (firstOf (ts ++ us)) ≡ cond b (t .0) (firstOf ts)
+    go : (b : Bool) → cond b (t .0) (firstOf ts) ≢ 0 → (firstOf ts ≢ 0 → firstOf (ts ++ us) ≡ firstOf ts)
+        → cond b (t .0) (firstOf (ts ++ us)) ≡ cond b (t .0) (firstOf ts)
     go true n ih = refl
     go false n ih = ih n
 
@@ -221,7 +223,8 @@ module _ (a : Answer) (holds : Bool) (g : Ground) where
 
 -- the answer for some tests becomes the answer for one more behind them. What was tried has to be the test's value b only where no test before it holds,
 -- so that what is tested may lean on them
-pub tried-more : {a : Answer} {holds : Bool} {g : Ground} {r : Answer} → Tried a holds g r → (ts : List Test) (b : Bool) → T (numbered ts) → stated a ≡ refusal (firstOf ts)
+pub tried-more : {a : Answer} {holds : Bool} {g : Ground} {r : Answer} → Tried a holds g r → (ts : List Test) (b : Bool) → T (numbered ts)
+    → stated a ≡ refusal (firstOf ts)
     → (firstOf ts ≡ 0 → holds ≡ b) → stated r ≡ refusal (firstOf (ts ++ (numberOf g, b) ∷ []))
 tried-more {a} {holds} {g} {r} t ts b n e f = go a refl
   where

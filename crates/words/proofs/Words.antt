@@ -5,7 +5,8 @@ use native.Mathlib.Omega.{arith}
 use mathlib.Core.Bool.{not}
 use lib.Dec.{T, eqb, leb}
 use Rattle.plane.proofs.Tests.{eq-eqb, not-not, not-leb}
-use Rattle.words.specs.Word.{kind, namedBits, wrongKind, extraBit, anchorKind, rowKind, headKind, placeKind, stageKind, anchorX, anchorY, rowY, headCount, placeX, placeY, stageMask, anchorWord, rowWord, headWord, placeWord, stageWord}
+use Rattle.words.specs.Word.{kind, namedBits, wrongKind, extraBit, anchorKind, rowKind, headKind, placeKind, stageKind, anchorX, anchorY, rowY}
+use Rattle.words.specs.Word.{headCount, placeX, placeY, stageMask, anchorWord, rowWord, headWord, placeWord, stageWord}
 
 -- what a word at a place that calls for kind k passes: grounds 2 and 3
 pub record Fine (k w : ℕ) : Type 0 where

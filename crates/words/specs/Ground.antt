@@ -6,7 +6,8 @@ use mathlib.Core.Bool.{Bool, true, false, cond, _||_}
 use mathlib.Core.List.{List, [], _∷_}
 use Prim.Native.Nat.{ℕ}
 use Rattle.words.specs.declared.Ground.{Ground}
-use Rattle.words.specs.declared.Ground.the-variants.{ListLength, WordKind, ExtraBit, RowOrder, StageCount, PlaceField, StageMask, OutOfRange, OutputLength, NoChain, FrameSize, FrameLength, CellValue, ImageLength}
+use Rattle.words.specs.declared.Ground.the-variants.{ListLength, WordKind, ExtraBit, RowOrder, StageCount, PlaceField, StageMask, OutOfRange}
+use Rattle.words.specs.declared.Ground.the-variants.{OutputLength, NoChain, FrameSize, FrameLength, CellValue, ImageLength}
 use Rattle.words.specs.declared.Answer.{Answer}
 use Rattle.words.specs.declared.Answer.the-variants.{Done, Refused}
 

@@ -4,7 +4,8 @@ use Prim.Native.Nat.{ℕ}
 use lib.Dec.{eqb}
 use Rattle.words.specs.declared.Word.{Word}
 use Rattle.words.specs.declared.Word.the-variants.{Anchor, Row, Head, Place, Stage, Unused}
-use Rattle.words.specs.Word.{kind, anchorKind, rowKind, headKind, placeKind, stageKind, anchorX, anchorY, rowY, rowBits, headCount, placeX, placeY, stageMask}
+use Rattle.words.specs.Word.{kind, anchorKind, rowKind, headKind, placeKind, stageKind, anchorX, anchorY, rowY, rowBits, headCount, placeX}
+use Rattle.words.specs.Word.{placeY, stageMask}
 
 -- the first where the test holds, else the second
 abbrev pub pick : {A : Type 0} → Bool → A → A → A

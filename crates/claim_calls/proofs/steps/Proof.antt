@@ -36,7 +36,9 @@ same-length : tie.Need-same-length
 same-length c = search needs
 
 returns : tie.Need-returns
-returns c = stopped (c .before .before .before .before .before .plan .result) (c .before .planned .given .1) (c .before .before .before .before .before .plan .ensures)
+returns c =
+    stopped (c .before .before .before .before .before .plan .result) (c .before .planned .given .1)
+    (c .before .before .before .before .before .plan .ensures)
 
 same-length-2 : tie.Need-same-length-2
 same-length-2 c = search needs
@@ -48,7 +50,11 @@ same-length-4 : tie.Need-same-length-4
 same-length-4 c = search needs
 
 returns-2 : tie.Need-returns-2
-returns-2 c = went-on (c .before .before .before .before .before .before .before .before .before .before .before .before .before .before .plan .result) (c .before .before .before .before .before .before .before .before .before .before .planned2 .given .1) (c .before .before .before .before .before .before .before .before .before .before .before .before .before .before .plan .ensures) (c .before .before .before .before .operate .ensures)
+returns-2 c =
+    went-on (c .before .before .before .before .before .before .before .before .before .before .before .before .before .before .plan .result)
+    (c .before .before .before .before .before .before .before .before .before .before .planned2 .given .1)
+    (c .before .before .before .before .before .before .before .before .before .before .before .before .before .before .plan .ensures)
+    (c .before .before .before .before .operate .ensures)
 
 pub steps-spec : {M : Type 1} → statement M
 steps-spec =

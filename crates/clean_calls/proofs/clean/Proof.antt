@@ -21,11 +21,13 @@ abbrev start : tie.After-enum-told → tie.Start
 start c = c .before .before .before .before .before .before .before .before .before
 
 -- no ground holds, once the grounds are tried
-passed : (c : tie.After-enum-told) → let a = start c .args in firstOf (operationTests (a .plan .now) (a .w) (a .h) (a .frame .now) (a .first .now) (a .second .now)) ≡ 0
+passed : (c : tie.After-enum-told) → let a = start c .args in
+    firstOf (operationTests (a .plan .now) (a .w) (a .h) (a .frame .now) (a .first .now) (a .second .now)) ≡ 0
 passed c = let t = c .before .before .refused in no-refusal (t .result) _ (c .before .match .keys2) (t .ensures)
 
 -- so the frame goes into the plane
-fits : (c : tie.After-enum-told) → let a = start c .args in T (packFits free (a .w) (a .h) (a .w + 15) (a .h + 15) (length (a .frame .now)) (length (a .first .now)))
+fits : (c : tie.After-enum-told) → let a = start c .args in
+    T (packFits free (a .w) (a .h) (a .w + 15) (a .h + 15) (length (a .frame .now)) (length (a .first .now)))
 fits c =
     let a = start c .args in
     packs (a .plan .now) (a .w) (a .h) (a .frame .now) (a .first .now) (a .second .now) (passed c)
@@ -50,7 +52,8 @@ returns : tie.Need-returns
 returns c =
     let t = c .before .before .before in
     let a = t .before .before .before .before .before .before .before .args in
-    refused-call (operationTests (a .plan .now) (a .w) (a .h) (a .frame .now) (a .first .now) (a .second .now)) (t .refused .result) _ (t .refused .ensures) (c .before .tested .given .1) refl (refl, refl)
+    refused-call (operationTests (a .plan .now) (a .w) (a .h) (a .frame .now) (a .first .now) (a .second .now)) (t .refused .result) _ (t .refused .ensures)
+    (c .before .tested .given .1) refl (refl, refl)
 
 enum-told : tie.Need-enum-told
 enum-told c = search needs
@@ -76,18 +79,21 @@ run-requires : tie.Need-run-requires
 run-requires c κs = search needs
 
 -- the frame is packed, so the stages can be run
-able : (c : tie.After-run) → let a = start (told c) .args in Runnable (a .plan .now) (a .w) (a .h) (c .before .before .before .before .before .pack .last .1 .0) (a .second .now)
+able : (c : tie.After-run) → let a = start (told c) .args in
+    Runnable (a .plan .now) (a .w) (a .h) (c .before .before .before .before .before .pack .last .1 .0) (a .second .now)
 able c =
     let k = told c in
     let a = start k .args in
-    runs (a .plan .now) (a .w) (a .h) (a .frame .now) (a .first .now) (a .second .now) (passed k) (c .before .before .before .before .before .pack .ensures .done (fits k))
+    runs (a .plan .now) (a .w) (a .h) (a .frame .now) (a .first .now) (a .second .now) (passed k)
+    (c .before .before .before .before .before .pack .ensures .done (fits k))
 
 cast-run : tie.Need-cast-run
 cast-run c =
     let at = c .before .before .before .before in
     let k = told at in
     let a = start k .args in
-    let l = few-stages (a .plan .now) (plan-accepted (a .plan .now) (a .w) (a .h) (a .frame .now) (a .first .now) (a .second .now) (passed k)) (a .op) (at .run .ensures .through (able at) .ended .count) in
+    let l = few-stages (a .plan .now) (plan-accepted (a .plan .now) (a .w) (a .h) (a .frame .now) (a .first .now) (a .second .now) (passed k)) (a .op)
+    (at .run .ensures .through (able at) .ended .count) in
     record { fits = omega arith }
 
 same-length-3 : tie.Need-same-length-3
@@ -102,7 +108,8 @@ returns-2 c =
     let k = told at in
     let a = start k .args in
     let t = at .run .ensures .through (able at) in
-    ran (a .plan .now) (a .w) (a .h) (a .frame .now) (a .first .now) (a .second .now) (passed k) (at .before .before .before .before .before .pack .ensures .done (fits k)) (t .ended) (t .away) _ refl
+    ran (a .plan .now) (a .w) (a .h) (a .frame .now) (a .first .now) (a .second .now) (passed k)
+    (at .before .before .before .before .before .pack .ensures .done (fits k)) (t .ended) (t .away) _ refl
 
 pub clean-spec : {M : Type 1} → statement M
 clean-spec =

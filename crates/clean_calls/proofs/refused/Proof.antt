@@ -36,7 +36,9 @@ returns-2 c =
     let a = k .before .before .before .before .before .before .args in
     let z = no-refusal (t .result) _ (k .match .keys2) (t .ensures) in
     c .work-refusal .ensures
-    ∙ ap refusal (sym (rest-append (planTests (a .plan .now)) (workTests (a .w) (a .h) (a .frame .now) (a .first .now) (a .second .now)) (plan-clear (a .plan .now) z)))
+    ∙ ap refusal
+    (sym
+    (rest-append (planTests (a .plan .now)) (workTests (a .w) (a .h) (a .frame .now) (a .first .now) (a .second .now)) (plan-clear (a .plan .now) z)))
 
 pub refused-spec : {M : Type 1} → statement M
 refused-spec =

@@ -33,13 +33,18 @@ same-length-2 c = search needs
 returns-2 : tie.Need-returns-2
 returns-2 c =
     let a = c .before .before .before .before .before .before .before .before .args in
-    ranged-ap (c .before .before .fill2 .ensures) (λ k lo hi. sym (seen-under (a .outside) (a .columns) (a .rows) (a .src .now) (k + a .a) (a .t) (omega arith) (omega arith)))
+    ranged-ap (c .before .before .fill2 .ensures)
+    (λ k lo hi. sym (seen-under (a .outside) (a .columns) (a .rows) (a .src .now) (k + a .a) (a .t) (omega arith) (omega arith)))
 
 mul-q : tie.Need-mul-q
-mul-q c = let a = c .before .before .before .before .args in omega (arith, rows-apart (a .columns) (a .t - 15) (a .rows) (omega arith), mul-comm (a .columns) (a .rows))
+mul-q c =
+    let a = c .before .before .before .before .args in
+    omega (arith, rows-apart (a .columns) (a .t - 15) (a .rows) (omega arith), mul-comm (a .columns) (a .rows))
 
 add-line : tie.Need-add-line
-add-line c = let a = c .before .before .before .before .args in omega (arith, rows-apart (a .columns) (a .t - 15) (a .rows) (omega arith), mul-comm (a .columns) (a .rows))
+add-line c =
+    let a = c .before .before .before .before .args in
+    omega (arith, rows-apart (a .columns) (a .t - 15) (a .rows) (omega arith), mul-comm (a .columns) (a .rows))
 
 sub-line : tie.Need-sub-line
 sub-line c = search needs
@@ -48,7 +53,9 @@ part-line-start : tie.Need-part-line-start
 part-line-start c = search needs
 
 part-line-end : tie.Need-part-line-end
-part-line-end c = let a = c .before .before .before .before .args in omega (arith, rows-apart (a .columns) (a .t - 15) (a .rows) (omega arith), mul-comm (a .columns) (a .rows))
+part-line-end c =
+    let a = c .before .before .before .before .args in
+    omega (arith, rows-apart (a .columns) (a .t - 15) (a .rows) (omega arith), mul-comm (a .columns) (a .rows))
 
 line-requires : tie.Need-line-requires
 line-requires c κs = search needs
@@ -61,10 +68,12 @@ returns-3 c =
     let a = c .before .before .before .before .before .before .before .before .before .args in
     let q = (a .t - 15) * a .columns in
     let room = rows-apart (a .columns) (a .t - 15) (a .rows) (omega arith) in
-    let n : length (midOf q (q + a .columns - q) (a .src .now)) ≡ a .columns = mid-len q (q + a .columns) (a .src .now) (omega (arith, room, mul-comm (a .columns) (a .rows))) ∙ omega arith in
+    let n : length (midOf q (q + a .columns - q) (a .src .now))
+    ≡ a .columns = mid-len q (q + a .columns) (a .src .now) (omega (arith, room, mul-comm (a .columns) (a .rows))) ∙ omega arith in
     ranged-ap (c .before .before .line .ensures) (λ k lo hi.
     ap (λ (m : ℕ). shifted (a .outside) m (λ i. getD (midOf q (q + a .columns - q) (a .src .now)) i 0) (k + a .a)) n
-    ∙ seen-line (a .outside) (a .columns) (a .rows) (a .src .now) (k + a .a) (a .t) (λ i. getD (midOf q (q + a .columns - q) (a .src .now)) i 0) (omega arith) (omega arith) (omega arith)
+    ∙ seen-line (a .outside) (a .columns) (a .rows) (a .src .now) (k + a .a) (a .t) (λ i. getD (midOf q (q + a .columns - q) (a .src .now)) i 0)
+    (omega arith) (omega arith) (omega arith)
     (λ i l. getD-mid 0 q (q + a .columns - q) (a .src .now) i (omega arith)))
 
 pub across-spec : {M : Type 1} → statement M

@@ -31,7 +31,8 @@ returns-2 : tie.Need-returns-2
 returns-2 c =
     let a = c .before .before .before .before .before .before .before .before .args in
     was-done (cutFits (a .w) (a .h) (a .columns) (a .rows) (a .a) (a .b) (length (a .src .now)) (length (a .dst .now))) (a .dst .now)
-    (test-holds (c .before .before .before .before .before .cut-fits .ensures) (c .before .before .before .before .if1 .left)) (c .before .before .down .ensures)
+    (test-holds (c .before .before .before .before .before .cut-fits .ensures) (c .before .before .before .before .if1 .left))
+    (c .before .before .down .ensures)
 
 pub cut-spec : {M : Type 1} → statement M
 cut-spec = tie.close (tie.spec cut-fits-requires returns down-requires same-length returns-2)

@@ -62,7 +62,9 @@ returns c =
     let e = mul-le-mul-right {m = n .result} {n = a .h} (a .w) l in
     let r = ranged-part {a = n .result * a .w} {e = a .h * a .w} e (omega (arith, mul-comm (a .w) (a .h), u .len)) (c .before .before .fill .ensures) in
     cut-is (a .outside) (a .w) (a .h) (a .columns) (a .rows) (a .a) (a .b) (a .src .now) (omega arith)
-    (laid-rest l refl refl u r (λ x y lo hi. let k = edge-after (n .ensures) y lo hi in seen-under (a .outside) (a .columns) (a .rows) (a .src .now) (x + a .a) (y + a .b) (omega arith) (omega arith)))
+    (laid-rest l refl refl u r
+    (λ x y lo hi. let k = edge-after (n .ensures) y lo hi in
+    seen-under (a .outside) (a .columns) (a .rows) (a .src .now) (x + a .a) (y + a .b) (omega arith) (omega arith)))
 
 pub down-spec : {M : Type 1} → statement M
 down-spec =

@@ -30,7 +30,9 @@ returns c =
     let at-if = c .before .before .before .before in
     let a = at-if .before .before .before .before .before .args in
     ranged-ap (c .before .before .fill .ensures)
-    (λ k lo hi. sym (none-seen (a .outside) (length (a .row .now)) (λ i. getD (a .row .now) i 0) (at-if .before .before .edge .ensures) (at-if .before .edge2 .ensures) k (at-if .if1 .taken) hi))
+    (λ k lo hi. sym
+    (none-seen (a .outside) (length (a .row .now)) (λ i. getD (a .row .now) i 0) (at-if .before .before .edge .ensures) (at-if .before .edge2 .ensures)
+    k (at-if .if1 .taken) hi))
 
 sub-fill : tie.Need-sub-fill
 sub-fill c = search needs
@@ -57,13 +59,19 @@ add-copy : tie.Need-add-copy
 add-copy c = search needs
 
 sub-copy-2 : tie.Need-sub-copy-2
-sub-copy-2 c = let at-if = c .before .before .before .before .before in between (at-if .before .before .edge .ensures) (at-if .before .edge2 .ensures) (at-if .if1 .left) .0
+sub-copy-2 c =
+    let at-if = c .before .before .before .before .before in
+    between (at-if .before .before .edge .ensures) (at-if .before .edge2 .ensures) (at-if .if1 .left) .0
 
 sub-copy-3 : tie.Need-sub-copy-3
-sub-copy-3 c = let at-if = c .before .before .before .before .before in part-begins (at-if .before .before .edge .ensures) (at-if .before .edge2 .ensures) (at-if .if1 .left)
+sub-copy-3 c =
+    let at-if = c .before .before .before .before .before in
+    part-begins (at-if .before .before .edge .ensures) (at-if .before .edge2 .ensures) (at-if .if1 .left)
 
 part-copy-start-2 : tie.Need-part-copy-start-2
-part-copy-start-2 c = let at-if = c .before .before .before .before .before in part-begins (at-if .before .before .edge .ensures) (at-if .before .edge2 .ensures) (at-if .if1 .left)
+part-copy-start-2 c =
+    let at-if = c .before .before .before .before .before in
+    part-begins (at-if .before .before .edge .ensures) (at-if .before .edge2 .ensures) (at-if .if1 .left)
 
 part-copy-end-2 : tie.Need-part-copy-end-2
 part-copy-end-2 c = search needs
@@ -96,7 +104,8 @@ returns-2 c =
     three-runs (a .outside) (length row) (a .a) (λ i. getD row i 0) (a .d .now) (p .ensures) (e .ensures) (at-if .if1 .left)
     (c .before .before .before .before .before .before .before .before .before .before .before .fill2 .ensures)
     (λ h g u.
-    ranged-copy (p .result + a .a - 15) (length row) row {a = p .result} {e = e .result} h g (le-refl _) u (c .before .before .before .before .before .before .copy .ensures))
+    ranged-copy (p .result + a .a - 15) (length row) row {a = p .result} {e = e .result} h g (le-refl _) u
+    (c .before .before .before .before .before .before .copy .ensures))
     (c .before .before .fill3 .ensures)
 
 pub line-spec : {M : Type 1} → statement M

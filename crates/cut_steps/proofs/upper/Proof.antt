@@ -22,7 +22,9 @@ loop-holds : tie.Need-loop-holds Inv-loop μ-loop
 loop-holds c = (omega arith, omega arith, laid-none _)
 
 add-across : tie.Need-add-across Inv-loop μ-loop
-add-across c = let a = c .before .before .before .before .args in let l = c .before .loop in omega (arith, rows-apart (a .w) (l .y) (a .h) (omega arith), mul-comm (a .w) (a .h), l .inv .2 .len)
+add-across c =
+    let a = c .before .before .before .before .args in
+    let l = c .before .loop in omega (arith, rows-apart (a .w) (l .y) (a .h) (omega arith), mul-comm (a .w) (a .h), l .inv .2 .len)
 
 sub-across : tie.Need-sub-across Inv-loop μ-loop
 sub-across c = search needs
@@ -31,7 +33,9 @@ part-across-start : tie.Need-part-across-start Inv-loop μ-loop
 part-across-start c = search needs
 
 part-across-end : tie.Need-part-across-end Inv-loop μ-loop
-part-across-end c = let a = c .before .before .before .before .args in let l = c .before .loop in omega (arith, rows-apart (a .w) (l .y) (a .h) (omega arith), mul-comm (a .w) (a .h), l .inv .2 .len)
+part-across-end c =
+    let a = c .before .before .before .before .args in
+    let l = c .before .loop in omega (arith, rows-apart (a .w) (l .y) (a .h) (omega arith), mul-comm (a .w) (a .h), l .inv .2 .len)
 
 add-across-2 : tie.Need-add-across-2 Inv-loop μ-loop
 add-across-2 c = search needs
@@ -40,7 +44,10 @@ across-requires : tie.Need-across-requires Inv-loop μ-loop
 across-requires c κs = search needs
 
 add-p : tie.Need-add-p Inv-loop μ-loop
-add-p c = let a = c .before .before .before .before .before .before .before .before .args in let l = c .before .before .before .before .before .loop in omega (arith, rows-apart (a .w) (l .y) (a .h) (omega arith), mul-comm (a .w) (a .h), l .inv .2 .len)
+add-p c =
+    let a = c .before .before .before .before .before .before .before .before .args in
+    let l = c .before .before .before .before .before .loop in
+    omega (arith, rows-apart (a .w) (l .y) (a .h) (omega arith), mul-comm (a .w) (a .h), l .inv .2 .len)
 
 add-y : tie.Need-add-y Inv-loop μ-loop
 add-y c = search needs
@@ -53,7 +60,8 @@ loop-again c =
     let a = c .before .before .before .before .before .before .before .before .args in
     let l = c .before .before .before .before .before .loop in
     let room = rows-apart (a .w) (l .y) (a .h) (omega arith) in
-    let r = ranged-part {a = l .p} {e = l .p + a .w} {xs = l .dst} (omega arith) (omega (arith, room, mul-comm (a .w) (a .h), l .inv .2 .len)) (c .before .before .across .ensures) in
+    let r = ranged-part {a = l .p} {e = l .p + a .w} {xs = l .dst} (omega arith) (omega (arith, room, mul-comm (a .w) (a .h), l .inv .2 .len))
+    (c .before .before .across .ensures) in
     (omega arith, omega (arith, add-mul (l .y) 1 (a .w)), laid-more (l .inv .1) (l .inv .2) r)
 
 same-length : tie.Need-same-length Inv-loop μ-loop

@@ -32,7 +32,8 @@ returns : tie.Need-returns Inv-loop μ-loop
 returns c =
     let st = c .before .before .before in
     let cells = st .args .cells in
-    numbered-none cells (rows16 cells _ (st .good .0)) _ _ (c .before .before .clipped .ensures) (c .before .tops .result) (c .before .tops .ensures) (c .if1 .taken)
+    numbered-none cells (rows16 cells _ (st .good .0)) _ _ (c .before .before .clipped .ensures) (c .before .tops .result) (c .before .tops .ensures)
+    (c .if1 .taken)
 
 loop-holds : tie.Need-loop-holds Inv-loop μ-loop
 loop-holds c = (omega arith, (refl, λ k l. absurd (omega arith)))
@@ -114,7 +115,8 @@ loop-again c =
       omega arith,
       (
         length-set (h .r) (h .i) v ∙ h .inv .1 .0,
-        stored (λ k q. q + (timesOf k * getD s (middleOf k) 0 + 128) ≡ getD s (firstDirection k) 0 + getD s (secondDirection k) 0 + timesOf k * 64) (h .r) (h .i) v (omega (arith, h .inv .1 .0))
+        stored (λ k q. q + (timesOf k * getD s (middleOf k) 0 + 128) ≡ getD s (firstDirection k) 0 + getD s (secondDirection k) 0 + timesOf k * 64) (h .r)
+            (h .i) v (omega (arith, h .inv .1 .0))
             (h .inv .1 .1) (c .number .ensures),
       ),
     )
@@ -125,7 +127,8 @@ returns-2 c =
     let e = c .before .before in
     let st = e .before .before .before in
     let cells = st .args .cells in
-    numbered-all cells (rows16 cells _ (st .good .0)) _ _ (e .before .before .clipped .ensures) (e .before .tops .result) (e .before .tops .ensures) (e .if1 .left) (h .r)
+    numbered-all cells (rows16 cells _ (st .good .0)) _ _ (e .before .before .clipped .ensures) (e .before .tops .result) (e .before .tops .ensures)
+    (e .if1 .left) (h .r)
     (λ i l. h .inv .1 .1 i (omega arith))
 
 pub numbers-spec : {M : Type 1} → statement M

@@ -82,7 +82,8 @@ loop-again c =
       omega arith,
       (
         length-set (h .r) (h .i) (g .result) ∙ h .inv .1 .0,
-        stored (λ k q. Supported k (st .args .first) (st .args .last) (st .args .y) (getD (st .args .t1) k 0) q) (h .r) (h .i) (g .result) (omega (arith, h .inv .1 .0)) (h .inv .1 .1)
+        stored (λ k q. Supported k (st .args .first) (st .args .last) (st .args .y) (getD (st .args .t1) k 0) q) (h .r) (h .i) (g .result)
+            (omega (arith, h .inv .1 .0)) (h .inv .1 .1)
             (raised-one (h .i) _ _ _ _ (v .result) _ (v .ensures) (g .ensures)),
       ),
     )

@@ -42,8 +42,10 @@ raised-requires : tie.Need-raised-requires Inv-loop μ-loop
 raised-requires c κs =
     let at-loop = c .before .before .before .before in
     let y = at-loop .loop .y in
-    let words = rows16 (at-loop .before .args .t1) _ (at-loop .before .good .0) .words y in
-    (omega (arith, bit-in 16 _ _ words (c .before .first-in .ensures .some (omega arith) .cell)), (omega (arith, bit-in 16 _ _ words (c .last-in .ensures .cell)), omega arith))
+    let words = rows16 (at-loop .before .args .t1) _ (at-loop .before .good .0) .words y in (
+      omega (arith, bit-in 16 _ _ words (c .before .first-in .ensures .some (omega arith) .cell)),
+      (omega (arith, bit-in 16 _ _ words (c .last-in .ensures .cell)), omega arith),
+    )
 
 add-y : tie.Need-add-y Inv-loop μ-loop
 add-y c = search needs

@@ -37,14 +37,16 @@ cast-result : tie.Need-cast-result
 cast-result c =
     let st = c .before .before in
     let e = back (st .args .x) (st .args .d) (st .fits .x) (st .fits .d) in
-    let b = between (pos (st .args .x) +ℤ st .args .d) (subst (λ z. ltZ z (pos 0) ≡ false) e (c .before .if1 .left)) (subst (λ z. ltZ (pos 30) z ≡ false) e (c .if2 .left)) in
+    let b = between (pos (st .args .x) +ℤ st .args .d) (subst (λ z. ltZ z (pos 0) ≡ false) e (c .before .if1 .left))
+    (subst (λ z. ltZ (pos 30) z ≡ false) e (c .if2 .left)) in
     subst (λ z. T (nonNeg z) × Fits w32 (natAbs z)) (sym (e ∙ b .is)) (tt, record { fits = (let l = b .le in omega arith) })
 
 returns-3 : tie.Need-returns-3
 returns-3 c =
     let st = c .before .before in
     let e = back (st .args .x) (st .args .d) (st .fits .x) (st .fits .d) in
-    let b = between (pos (st .args .x) +ℤ st .args .d) (subst (λ z. ltZ z (pos 0) ≡ false) e (c .before .if1 .left)) (subst (λ z. ltZ (pos 30) z ≡ false) e (c .if2 .left)) in
+    let b = between (pos (st .args .x) +ℤ st .args .d) (subst (λ z. ltZ z (pos 0) ≡ false) e (c .before .if1 .left))
+    (subst (λ z. ltZ (pos 30) z ≡ false) e (c .if2 .left)) in
     subst (λ z. Along (st .args .x) (st .args .d) (natAbs z)) (sym e) (along-near (st .args .x) (st .args .d) b)
 
 pub along-spec : {M : Type 1} → statement M

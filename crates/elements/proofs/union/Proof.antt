@@ -101,7 +101,8 @@ returns-3 c =
     let i2 = c .before .before .before in
     let IA = i2 .before .before .before .within .ensures .0 (not-false _ (i2 .before .before .if1 .left)) in
     let IB = i2 .before .within2 .ensures .0 (not-false _ (i2 .if2 .left)) in
-    joined-made a b wa wb (S .0) (S .1) (x .result) (y .result) (x .ensures) (y .ensures) (ra .result) (rb .result) (r .result) (rows16 (r .result) _ (r .ok)) (ra .ensures) (rb .ensures)
+    joined-made a b wa wb (S .0) (S .1) (x .result) (y .result) (x .ensures) (y .ensures) (ra .result) (rb .result) (r .result)
+    (rows16 (r .result) _ (r .ok)) (ra .ensures) (rb .ensures)
     (r .ensures) IA IB
 
 pub union-spec : {M : Type 1} → statement M

@@ -43,7 +43,8 @@ returns-4 c =
     let q = c .before .before .before .if2 .left in
     let u = c .before .if3 .left in
     let n = a .limit - a .j in (
-      λ t. within-yes (At (a .a)) (a .i) (a .j) (a .limit) (last .result) (c .last-row .result) (last .ensures) (c .last-row .ensures) p q u (leb-true (c .last-row .result) n t),
+      λ t. within-yes (At (a .a)) (a .i) (a .j) (a .limit) (last .result) (c .last-row .result) (last .ensures) (c .last-row .ensures) p q u
+          (leb-true (c .last-row .result) n t),
       λ t s w. let b = within-no (At (a .a)) (a .i) (a .j) (a .limit) (last .result) (c .last-row .result) (last .ensures) (c .last-row .ensures) s w in
           let l = leb-false (c .last-row .result) n t in
           omega arith,

@@ -11,8 +11,10 @@ first-row-requires c κs = search needs
 
 returns : tie.Need-returns
 returns c =
-    let a = c .before .args .a in
-    (λ e. first-none a _ (rows16 a _ (c .before .good .0)) (c .first-row .ensures) (eqb-true _ _ e), λ e. first-some _ _ (c .first-row .ensures) (eqb-false _ _ e))
+    let a = c .before .args .a in (
+      λ e. first-none a _ (rows16 a _ (c .before .good .0)) (c .first-row .ensures) (eqb-true _ _ e),
+      λ e. first-some _ _ (c .first-row .ensures) (eqb-false _ _ e),
+    )
 
 pub empty-spec : {M : Type 1} → statement M
 empty-spec = tie.close (tie.spec first-row-requires returns)

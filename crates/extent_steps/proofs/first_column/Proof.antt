@@ -53,7 +53,8 @@ returns-2 c =
     let a = k .before .args .a in
     let r = k .columns .result in
     let w = rows16 a _ (k .before .good .0) in
-    first-column-of a r w (k .columns .ensures) 16 (from-done column (AtWord r) (h .first) (c .loop-test .left) (h .inv .1) (word-in a r w (k .columns .ensures)))
+    first-column-of a r w (k .columns .ensures) 16
+    (from-done column (AtWord r) (h .first) (c .loop-test .left) (h .inv .1) (word-in a r w (k .columns .ensures)))
 
 pub first-column-spec : {M : Type 1} → statement M
 first-column-spec =

@@ -36,7 +36,8 @@ returns c =
     let k = at-loop .before in
     let a = k .before .args .a in
     last-column-of a (k .columns .result) (rows16 a _ (k .before .good .0)) (k .columns .ensures) (h .last - 1)
-    (below-found column (AtWord (k .columns .result)) (h .last) (h .last - 1) (h .last - 1) 0 (omega arith) (h .inv .1) (c .before .has .ensures .0 (c .if1 .taken)) refl)
+    (below-found column (AtWord (k .columns .result)) (h .last) (h .last - 1) (h .last - 1) 0 (omega arith) (h .inv .1)
+    (c .before .has .ensures .0 (c .if1 .taken)) refl)
 
 loop-less : tie.Need-loop-less Inv-loop μ-loop
 loop-less c = search needs
@@ -45,8 +46,11 @@ loop-again : tie.Need-loop-again Inv-loop μ-loop
 loop-again c =
     let at-loop = c .before .before .before in
     let h = at-loop .loop in
-    let r = at-loop .before .columns .result in
-    (omega arith, below-less column (AtWord r) (h .last) (h .last - 1) (omega arith) (h .inv .1) (word-clear r (h .last - 1) (c .before .has .ensures .1 (c .if1 .left))))
+    let r = at-loop .before .columns .result in (
+      omega arith,
+      below-less column (AtWord r) (h .last) (h .last - 1) (omega arith) (h .inv .1)
+          (word-clear r (h .last - 1) (c .before .has .ensures .1 (c .if1 .left))),
+    )
 
 returns-2 : tie.Need-returns-2 Inv-loop μ-loop
 returns-2 c =

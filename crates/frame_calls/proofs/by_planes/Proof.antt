@@ -54,9 +54,12 @@ returns c =
     let st = c .before .before .before .before .before .before .before .before .before .before .before .before .before .before .before .before .before in
     let x = st .args in
     let r = st .pre .0 in
-    let p = c .before .before .before .before .before .before .before .before .before .before .before .before .pack .ensures .done (packs (x .erode) (x .w) (x .h) (x .mask) r) in
-    let s = c .before .before .before .before .before .before .before .stage .ensures .done (stages (x .erode) (x .w) (x .h) (x .mask) r p (x .plane .now) (st .pre .1)) in
-    stage-written (x .erode) (x .w) (x .h) (x .mask) r p s (c .before .before .unpack .ensures .done (unpacks (x .erode) (x .w) (x .h) (x .mask) r p s (st .pre .1)))
+    let p = c .before .before .before .before .before .before .before .before .before .before .before .before .pack .ensures .done
+    (packs (x .erode) (x .w) (x .h) (x .mask) r) in
+    let s = c .before .before .before .before .before .before .before .stage .ensures .done
+    (stages (x .erode) (x .w) (x .h) (x .mask) r p (x .plane .now) (st .pre .1)) in
+    stage-written (x .erode) (x .w) (x .h) (x .mask) r p s
+    (c .before .before .unpack .ensures .done (unpacks (x .erode) (x .w) (x .h) (x .mask) r p s (st .pre .1)))
 
 pub by-planes-spec : {M : Type 1} → statement M
 by-planes-spec =

@@ -8,7 +8,8 @@ slice-aggregate-by-planes : tie.Need-slice-aggregate-by-planes
 slice-aggregate-by-planes c = search needs
 
 by-planes-requires : tie.Need-by-planes-requires
-by-planes-requires c κs = let st = c .before .before .before .before in (st .pre, plane-large (st .args .erode) (st .args .w) (st .args .h) (st .args .mask) (st .pre))
+by-planes-requires c κs =
+    let st = c .before .before .before .before in (st .pre, plane-large (st .args .erode) (st .args .w) (st .args .h) (st .args .mask) (st .pre))
 
 same-length : tie.Need-same-length
 same-length c = search needs

@@ -34,7 +34,12 @@ occupied-requires : tie.Need-occupied-requires
 occupied-requires c κs = search needs
 
 returns-2 : tie.Need-returns-2
-returns-2 c = record { refused = λ n. absurd (n (accepted (c .before))); done = λ _. let a = from-told (c .before) .args in ap result (c .occupied .ensures .few (countable (a .w) (a .h) (a .frame .now) (accepted (c .before)))) }
+returns-2 c =
+    record {
+      refused = λ n. absurd (n (accepted (c .before)));
+      done = λ _. let a = from-told (c .before) .args in
+          ap result (c .occupied .ensures .few (countable (a .w) (a .h) (a .frame .now) (accepted (c .before))));
+    }
 
 pub load-spec : {M : Type 1} → statement M
 load-spec =

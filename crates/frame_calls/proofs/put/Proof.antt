@@ -22,7 +22,8 @@ returns : tie.Need-returns
 returns c =
     let t = c .before .before .before in
     let a = t .before .before .before .before .args in
-    refused-call (putTests (a .w) (a .h) (a .frame .now) (a .image .now)) (t .put-refusal .result) _ (t .put-refusal .ensures) (c .before .tested .given .1) refl refl
+    refused-call (putTests (a .w) (a .h) (a .frame .now) (a .image .now)) (t .put-refusal .result) _ (t .put-refusal .ensures) (c .before .tested .given .1)
+    refl refl
 
 enum-told : tie.Need-enum-told
 enum-told c = search needs

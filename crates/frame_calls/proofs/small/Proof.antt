@@ -8,7 +8,9 @@ slice-aggregate-by-planes : tie.Need-slice-aggregate-by-planes
 slice-aggregate-by-planes c = search needs
 
 by-planes-requires : tie.Need-by-planes-requires
-by-planes-requires c κs = let st = c .before .before .before .before in (st .pre .0, plane-small (st .args .erode) (st .args .w) (st .args .h) (st .args .mask) (st .pre .0) (st .pre .1) (st .pre .2))
+by-planes-requires c κs =
+    let st = c .before .before .before .before in
+    (st .pre .0, plane-small (st .args .erode) (st .args .w) (st .args .h) (st .args .mask) (st .pre .0) (st .pre .1) (st .pre .2))
 
 same-length : tie.Need-same-length
 same-length c = search needs

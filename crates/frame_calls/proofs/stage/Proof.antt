@@ -20,7 +20,8 @@ returns : tie.Need-returns
 returns c =
     let t = c .before .before .before in
     let a = t .before .before .before .before .args in
-    refused-call (stageTests (a .word) (a .w) (a .h) (a .from .now) (a .to .now)) (t .stage-refusal .result) _ (t .stage-refusal .ensures) (c .before .tested .given .1) refl refl
+    refused-call (stageTests (a .word) (a .w) (a .h) (a .from .now) (a .to .now)) (t .stage-refusal .result) _ (t .stage-refusal .ensures)
+    (c .before .tested .given .1) refl refl
 
 enum-told : tie.Need-enum-told
 enum-told c = search needs
@@ -43,7 +44,8 @@ returns-2 c =
     let k = c .before .before .before .before .before in
     let t = k .before .stage-refusal in
     let a = k .before .before .before .before .before .args in
-    stage-done (a .word) (a .w) (a .h) (a .from .now) (a .to .now) (no-refusal (t .result) _ (k .match .keys2) (t .ensures)) (a .erode) _ _ refl (c .before .before .through .ensures)
+    stage-done (a .word) (a .w) (a .h) (a .from .now) (a .to .now) (no-refusal (t .result) _ (k .match .keys2) (t .ensures)) (a .erode) _ _ refl
+    (c .before .before .through .ensures)
 
 pub stage-spec : {M : Type 1} → statement M
 stage-spec =

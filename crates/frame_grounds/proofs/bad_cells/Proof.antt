@@ -36,7 +36,8 @@ bad-among-requires c κs = search needs
 returns-3 : tie.Need-returns-3
 returns-3 c z l =
     let a = c .before .before .before .before .before .before .args in
-    c .bad-among .ensures ∙ ap (λ k. badCell (take k (a .frame .now))) (sym (right-length (a .w) (a .h) (a .frame .now) l)) ∙ ap badCell (take-length (a .frame .now))
+    c .bad-among .ensures ∙ ap (λ k. badCell (take k (a .frame .now))) (sym (right-length (a .w) (a .h) (a .frame .now) l))
+    ∙ ap badCell (take-length (a .frame .now))
 
 pub bad-cells-spec : {M : Type 1} → statement M
 bad-cells-spec =

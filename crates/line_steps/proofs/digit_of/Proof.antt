@@ -13,7 +13,9 @@ sub-result : tie.Need-sub-result
 sub-result c = search needs
 
 returns-2 : tie.Need-returns-2
-returns-2 c = let b = c .before .before .args .b in let l : b - 48 < 10 = omega arith in digit-some b (b - 48) (omega arith) (let e = digit-low (b - 48) l in omega arith)
+returns-2 c =
+    let b = c .before .before .args .b in
+    let l : b - 48 < 10 = omega arith in digit-some b (b - 48) (omega arith) (let e = digit-low (b - 48) l in omega arith)
 
 returns-3 : tie.Need-returns-3
 returns-3 c = digit-none _ (λ n l e. omega arith) (λ n l k e. omega arith)
@@ -22,7 +24,9 @@ sub-result-2 : tie.Need-sub-result-2
 sub-result-2 c = search needs
 
 returns-4 : tie.Need-returns-4
-returns-4 c = let b = c .before .before .before .before .args .b in let l : 9 < b - 87 = omega arith in digit-some b (b - 87) (omega arith) (let e = digit-high (b - 87) l in omega arith)
+returns-4 c =
+    let b = c .before .before .before .before .args .b in
+    let l : 9 < b - 87 = omega arith in digit-some b (b - 87) (omega arith) (let e = digit-high (b - 87) l in omega arith)
 
 returns-5 : tie.Need-returns-5
 returns-5 c = digit-none _ (λ n l e. omega arith) (λ n l k e. omega arith)

@@ -27,8 +27,11 @@ loop-less c = search needs
 
 loop-again : tie.Need-loop-again Inv-loop μ-loop
 loop-again c =
-    let h = c .before .before in
-    (omega arith, read-more (h .before .before .args .ws .now) (h .loop .i) (h .loop .r) (c .with-word .result) (omega arith) (h .loop .inv .1) (c .with-word .ensures))
+    let h = c .before .before in (
+      omega arith,
+      read-more (h .before .before .args .ws .now) (h .loop .i) (h .loop .r) (c .with-word .result) (omega arith) (h .loop .inv .1)
+          (c .with-word .ensures),
+    )
 
 returns : tie.Need-returns Inv-loop μ-loop
 returns c = read-end (c .before .before .before .args .ws .now) (c .before .loop .i) (c .before .loop .r) (omega arith) (c .before .loop .inv .1)

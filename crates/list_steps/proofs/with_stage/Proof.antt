@@ -28,7 +28,8 @@ returns : tie.Need-returns
 returns c =
     let k = c .before .before .before .before .before in
     let st = k .before .before in
-    stage-sum (st .args .z) (c .before .mask-rows .result) (c .sum-of .result) (getD (now (st .args .ws)) (st .args .at) 0) _ (sym (k .word-at .ensures) ∙ c .before .before .before .word .given .1)
+    stage-sum (st .args .z) (c .before .mask-rows .result) (c .sum-of .result) (getD (now (st .args .ws)) (st .args .at) 0) _
+    (sym (k .word-at .ensures) ∙ c .before .before .before .word .given .1)
     (c .before .mask-rows .ensures) (c .sum-of .ensures)
 
 returns-2 : tie.Need-returns-2

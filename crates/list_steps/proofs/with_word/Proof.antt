@@ -38,7 +38,8 @@ returns : tie.Need-returns
 returns c =
     let k = c .before .before .before in
     let st = k .before .before in
-    word-row (st .args .z) (getD (now (st .args .ws)) (st .args .at) 0) _ _ (rows16 (st .args .z) _ (st .good .0) .rows) (sym (k .word-at .ensures) ∙ c .before .word .given .1)
+    word-row (st .args .z) (getD (now (st .args .ws)) (st .args .at) 0) _ _ (rows16 (st .args .z) _ (st .good .0) .rows)
+    (sym (k .word-at .ensures) ∙ c .before .word .given .1)
 
 returns-2 : tie.Need-returns-2
 returns-2 c =

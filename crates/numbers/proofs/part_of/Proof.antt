@@ -17,7 +17,8 @@ returns : tie.Need-returns
 returns c =
     let st = c .before .before .before in
     let a = st .args in
-    none (a .stages) (a .w) (a .h) (a .first .now) (a .second .now) (subst (λ z. ltZ z (pos 0) ≡ true) (toZ-ofZ w64 (a .stages) (st .fits .stages)) (c .if1 .taken))
+    none (a .stages) (a .w) (a .h) (a .first .now) (a .second .now)
+    (subst (λ z. ltZ z (pos 0) ≡ true) (toZ-ofZ w64 (a .stages) (st .fits .stages)) (c .if1 .taken))
 
 cast-n : tie.Need-cast-n
 cast-n c =

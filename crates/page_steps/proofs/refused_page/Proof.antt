@@ -46,7 +46,8 @@ returns-2 : tie.Need-returns-2
 returns-2 c =
     let e = c .before .before .before .before in
     let k = e .before in
-    refused-high _ _ _ (k .before .before .before .args .number % 100) (k .before .before .blank .ensures) (k .with-bytes .ensures) _ _ (omega arith) (omega arith)
+    refused-high _ _ _ (k .before .before .before .args .number % 100) (k .before .before .blank .ensures) (k .with-bytes .ensures) _ _ (omega arith)
+    (omega arith)
     (c .before .before .before .digit2 .ensures) (c .before .before .digit3 .ensures) (c .with-bytes3 .ensures)
 
 pub refused-page-spec : {M : Type 1} → statement M

@@ -11,7 +11,9 @@ start-requires : tie.Need-start-requires
 start-requires c κs = search needs
 
 returns : tie.Need-returns
-returns c = let a = c .before .before .before .before .before .args in of-second (a .n) (a .w) (a .h) (a .first .now) (a .second .now) (c .before .cells .ensures) (c .before .before .if1 .taken) (c .start .ensures)
+returns c =
+    let a = c .before .before .before .before .before .args in
+    of-second (a .n) (a .w) (a .h) (a .first .now) (a .second .now) (c .before .cells .ensures) (c .before .before .if1 .taken) (c .start .ensures)
 
 cells-requires-2 : tie.Need-cells-requires-2
 cells-requires-2 c κs = search needs
@@ -20,7 +22,9 @@ start-requires-2 : tie.Need-start-requires-2
 start-requires-2 c κs = search needs
 
 returns-2 : tie.Need-returns-2
-returns-2 c = let a = c .before .before .before .before .before .args in of-first (a .n) (a .w) (a .h) (a .first .now) (a .second .now) (c .before .cells2 .ensures) (c .before .before .if1 .left) (c .start2 .ensures)
+returns-2 c =
+    let a = c .before .before .before .before .before .args in
+    of-first (a .n) (a .w) (a .h) (a .first .now) (a .second .now) (c .before .cells2 .ensures) (c .before .before .if1 .left) (c .start2 .ensures)
 
 pub part-spec : {M : Type 1} → statement M
 part-spec =

@@ -64,8 +64,16 @@ write-plan-requires c κs =
     let F = shape-read (a .ws .now) z (s .result) (s .ensures) in
     let W = field16 (s .result .rows) _ (s .ok .1 .1 .1 .1 .1 .0) in
     let p = c .before .before .before .shortest in
-    let f = fields (shapePoints (a .ws .now)) (s .result) W F in
-    (f .0, (f .1, (few (a .ws .now) (a .out .now) (s .result) W F _ _ _ (p .ensures) (not-false _ (c .before .if2 .left)), c .before .before .before .before .before .before .if1 .left)))
+    let f = fields (shapePoints (a .ws .now)) (s .result) W F in (
+      f .0,
+      (
+        f .1,
+        (
+          few (a .ws .now) (a .out .now) (s .result) W F _ _ _ (p .ensures) (not-false _ (c .before .if2 .left)),
+          c .before .before .before .before .before .before .if1 .left,
+        ),
+      ),
+    )
 
 same-length : tie.Need-same-length
 same-length c = search needs
@@ -82,7 +90,9 @@ returns-4 c =
     let p = c .before .before .before .before .before .before .shortest in
     let w = c .before .before .write-plan in
     long-enough (a .ws .now) (a .out .now) z (c .before .before .before .before .before .before .before .before .before .if1 .left)
-    (inr (written (a .ws .now) (a .out .now) (s .result) W F _ _ _ (p .ensures) (not-false _ (c .before .before .before .before .if2 .left)) _ _ _ refl (w .ensures)))
+    (inr
+    (written (a .ws .now) (a .out .now) (s .result) W F _ _ _ (p .ensures) (not-false _ (c .before .before .before .before .if2 .left)) _ _ _ refl
+    (w .ensures)))
 
 pub plan-spec : {M : Type 1} → statement M
 plan-spec =

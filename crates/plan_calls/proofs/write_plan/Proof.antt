@@ -34,10 +34,13 @@ add-out-3 : tie.Need-add-out-3 Inv-loop μ-loop
 add-out-3 c = search needs
 
 slice-write-out-2 : tie.Need-slice-write-out-2 Inv-loop μ-loop
-slice-write-out-2 c = let st = c .before in still-room (st .args .x) (st .args .y) (st .args .p .masks) (st .args .p .n) (st .args .out .now) _ (st .pre .1 .1 .1)
+slice-write-out-2 c =
+    let st = c .before in still-room (st .args .x) (st .args .y) (st .args .p .masks) (st .args .p .n) (st .args .out .now) _ (st .pre .1 .1 .1)
 
 loop-holds : tie.Need-loop-holds Inv-loop μ-loop
-loop-holds c = let st = c .before in started (st .args .x) (st .args .y) (st .args .p .masks) (st .args .p .n) (st .args .out .now) _ _ (st .pre .1 .1 .1) (st .pre .1 .1 .0) refl refl
+loop-holds c =
+    let st = c .before in
+    started (st .args .x) (st .args .y) (st .args .p .masks) (st .args .p .n) (st .args .out .now) _ _ (st .pre .1 .1 .1) (st .pre .1 .1 .0) refl refl
 
 sub-out : tie.Need-sub-out Inv-loop μ-loop
 sub-out c = search needs

@@ -64,7 +64,8 @@ returns-4 c =
     let w = le-ltb 15 (extentOf false (drop 2 ws)) (omega arith) in
     let h = le-ltb 15 (extentOf true (drop 2 ws)) (omega arith) in
     let x = le-ltb 30 (placeX (getD ws 1 0) + extentOf false (drop 2 ws)) (omega arith) in
-    ap (λ n. ltb 30 (placeY (getD ws 1 0) + n)) f ∙ sym (range-tried ws (c .before .before .before .before .before .before .before .before .pre .2) ∙ simp (w, h, x))
+    ap (λ n. ltb 30 (placeY (getD ws 1 0) + n)) f
+    ∙ sym (range-tried ws (c .before .before .before .before .before .before .before .before .pre .2) ∙ simp (w, h, x))
 
 pub out-of-range-spec : {M : Type 1} → statement M
 out-of-range-spec =

@@ -58,16 +58,22 @@ sub-next : tie.Need-sub-next Inv-loop μ-loop
 sub-next c = search needs
 
 next-requires : tie.Need-next-requires Inv-loop μ-loop
-next-requires c κs = let g = group-fits (c .before .before .before .before .before .before .before .before .before .pre) (c .before .before .loop .y) (omega arith) in (omega arith, omega arith)
+next-requires c κs =
+    let g = group-fits (c .before .before .before .before .before .before .before .before .before .pre) (c .before .before .loop .y) (omega arith) in
+    (omega arith, omega arith)
 
 add-p-2 : tie.Need-add-p-2 Inv-loop μ-loop
-add-p-2 c = let g = group-fits (c .before .before .before .before .before .before .before .before .before .before .before .before .pre) (c .before .before .before .before .before .loop .y) (omega arith) in omega arith
+add-p-2 c =
+    let g = group-fits (c .before .before .before .before .before .before .before .before .before .before .before .before .pre)
+    (c .before .before .before .before .before .loop .y) (omega arith) in omega arith
 
 mul-q : tie.Need-mul-q Inv-loop μ-loop
 mul-q c = search needs
 
 add-q : tie.Need-add-q Inv-loop μ-loop
-add-q c = let g = group-fits (c .before .before .before .before .before .before .before .before .before .before .before .before .pre) (c .before .before .before .before .before .loop .y) (omega arith) in omega arith
+add-q c =
+    let g = group-fits (c .before .before .before .before .before .before .before .before .before .before .before .before .pre)
+    (c .before .before .before .before .before .loop .y) (omega arith) in omega arith
 
 add-y : tie.Need-add-y Inv-loop μ-loop
 add-y c = search needs

@@ -13,7 +13,8 @@ pack-fits-requires c κs = search needs
 returns : tie.Need-returns
 returns c =
     let a = c .before .before .before .before .args in
-    was-kept (packFits (a .outside) (a .w) (a .h) (a .gw) (a .gh) (length (a .f .now)) (length (a .dst .now))) (a .dst .now) (test-fails (c .before .pack-fits .ensures) (c .if1 .taken))
+    was-kept (packFits (a .outside) (a .w) (a .h) (a .gw) (a .gh) (length (a .f .now)) (length (a .dst .now))) (a .dst .now)
+    (test-fails (c .before .pack-fits .ensures) (c .if1 .taken))
 
 fill-requires : tie.Need-fill-requires
 fill-requires c κs =
@@ -28,7 +29,8 @@ returns-2 : tie.Need-returns-2
 returns-2 c =
     let a = c .before .before .before .before .before .before .before .before .args in
     was-done (packFits (a .outside) (a .w) (a .h) (a .gw) (a .gh) (length (a .f .now)) (length (a .dst .now))) (a .dst .now)
-    (test-holds (c .before .before .before .before .before .pack-fits .ensures) (c .before .before .before .before .if1 .left)) (c .before .before .fill .ensures)
+    (test-holds (c .before .before .before .before .before .pack-fits .ensures) (c .before .before .before .before .if1 .left))
+    (c .before .before .fill .ensures)
 
 pub pack-spec : {M : Type 1} → statement M
 pack-spec = tie.close (tie.spec pack-fits-requires returns fill-requires same-length returns-2)

@@ -17,17 +17,22 @@ sides-requires c κs = search needs
 returns : tie.Need-returns
 returns c =
     let a = c .before .before .args in
-    first-of-five (planeSides (a .outside) (a .gw) (a .gh)) (leb (a .w) (a .gw)) (leb (a .h) (a .gh)) (leb (a .w * a .h) (a .n)) (leb (planeSize (a .gw) (a .gh)) (a .k)) (test-fails (c .before .sides .ensures) (c .if1 .taken))
+    first-of-five (planeSides (a .outside) (a .gw) (a .gh)) (leb (a .w) (a .gw)) (leb (a .h) (a .gh)) (leb (a .w * a .h) (a .n))
+    (leb (planeSize (a .gw) (a .gh)) (a .k)) (test-fails (c .before .sides .ensures) (c .if1 .taken))
 
 returns-2 : tie.Need-returns-2
 returns-2 c =
     let a = c .before .before .before .args in
-    second-of-five (planeSides (a .outside) (a .gw) (a .gh)) (leb (a .w) (a .gw)) (leb (a .h) (a .gh)) (leb (a .w * a .h) (a .n)) (leb (planeSize (a .gw) (a .gh)) (a .k)) (test-holds (c .before .before .sides .ensures) (c .before .if1 .left)) (lt-leb (a .w) (a .gw) (omega arith))
+    second-of-five (planeSides (a .outside) (a .gw) (a .gh)) (leb (a .w) (a .gw)) (leb (a .h) (a .gh)) (leb (a .w * a .h) (a .n))
+    (leb (planeSize (a .gw) (a .gh)) (a .k)) (test-holds (c .before .before .sides .ensures) (c .before .if1 .left))
+    (lt-leb (a .w) (a .gw) (omega arith))
 
 returns-3 : tie.Need-returns-3
 returns-3 c =
     let a = c .before .before .before .before .args in
-    third-of-five (planeSides (a .outside) (a .gw) (a .gh)) (leb (a .w) (a .gw)) (leb (a .h) (a .gh)) (leb (a .w * a .h) (a .n)) (leb (planeSize (a .gw) (a .gh)) (a .k)) (test-holds (c .before .before .before .sides .ensures) (c .before .before .if1 .left)) (le-leb (a .w) (a .gw) (omega arith)) (lt-leb (a .h) (a .gh) (omega arith))
+    third-of-five (planeSides (a .outside) (a .gw) (a .gh)) (leb (a .w) (a .gw)) (leb (a .h) (a .gh)) (leb (a .w * a .h) (a .n))
+    (leb (planeSize (a .gw) (a .gh)) (a .k)) (test-holds (c .before .before .before .sides .ensures) (c .before .before .if1 .left))
+    (le-leb (a .w) (a .gw) (omega arith)) (lt-leb (a .h) (a .gh) (omega arith))
 
 mul-if4 : tie.Need-mul-if4
 mul-if4 c =
@@ -38,7 +43,9 @@ mul-if4 c =
 returns-4 : tie.Need-returns-4
 returns-4 c =
     let a = c .before .before .before .before .before .args in
-    fourth-of-five (planeSides (a .outside) (a .gw) (a .gh)) (leb (a .w) (a .gw)) (leb (a .h) (a .gh)) (leb (a .w * a .h) (a .n)) (leb (planeSize (a .gw) (a .gh)) (a .k)) (test-holds (c .before .before .before .before .sides .ensures) (c .before .before .before .if1 .left)) (le-leb (a .w) (a .gw) (omega arith)) (le-leb (a .h) (a .gh) (omega arith)) (lt-leb (a .w * a .h) (a .n) (omega arith))
+    fourth-of-five (planeSides (a .outside) (a .gw) (a .gh)) (leb (a .w) (a .gw)) (leb (a .h) (a .gh)) (leb (a .w * a .h) (a .n))
+    (leb (planeSize (a .gw) (a .gh)) (a .k)) (test-holds (c .before .before .before .before .sides .ensures) (c .before .before .before .if1 .left))
+    (le-leb (a .w) (a .gw) (omega arith)) (le-leb (a .h) (a .gh) (omega arith)) (lt-leb (a .w * a .h) (a .n) (omega arith))
 
 add-result : tie.Need-add-result
 add-result c =
@@ -70,7 +77,9 @@ add-result-4 c =
 returns-5 : tie.Need-returns-5
 returns-5 c =
     let a = c .before .before .before .before .before .args in
-    fifth-of-five (planeSides (a .outside) (a .gw) (a .gh)) (leb (a .w) (a .gw)) (leb (a .h) (a .gh)) (leb (a .w * a .h) (a .n)) (leb (planeSize (a .gw) (a .gh)) (a .k)) (test-holds (c .before .before .before .before .sides .ensures) (c .before .before .before .if1 .left)) (le-leb (a .w) (a .gw) (omega arith)) (le-leb (a .h) (a .gh) (omega arith)) (le-leb (a .w * a .h) (a .n) (omega arith))
+    fifth-of-five (planeSides (a .outside) (a .gw) (a .gh)) (leb (a .w) (a .gw)) (leb (a .h) (a .gh)) (leb (a .w * a .h) (a .n))
+    (leb (planeSize (a .gw) (a .gh)) (a .k)) (test-holds (c .before .before .before .before .sides .ensures) (c .before .before .before .if1 .left))
+    (le-leb (a .w) (a .gw) (omega arith)) (le-leb (a .h) (a .gh) (omega arith)) (le-leb (a .w * a .h) (a .n) (omega arith))
 
 pub pack-fits-spec : {M : Type 1} → statement M
 pack-fits-spec =

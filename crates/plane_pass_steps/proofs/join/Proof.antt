@@ -13,7 +13,8 @@ reads-fit-requires c κs = search needs
 returns : tie.Need-returns
 returns c =
     let a = c .before .before .before .before .args in
-    was-kept (readsFit (length (a .d .now)) (length (a .s .now)) (a .c) (a .x) (a .y) (a .z)) (a .d .now) (test-fails (c .before .reads-fit .ensures) (c .if1 .taken))
+    was-kept (readsFit (length (a .d .now)) (length (a .s .now)) (a .c) (a .x) (a .y) (a .z)) (a .d .now)
+    (test-fails (c .before .reads-fit .ensures) (c .if1 .taken))
 
 lift-requires : tie.Need-lift-requires
 lift-requires c κs = search needs
@@ -21,7 +22,8 @@ lift-requires c κs = search needs
 join-requires : tie.Need-join-requires
 join-requires c κs =
     let a = c .before .before .before .before .before .before .args in
-    let s = reads-say (length (a .d .now)) (length (a .s .now)) (a .c) (a .x) (a .y) (a .z) (test-holds (c .before .before .before .reads-fit .ensures) (c .before .before .if1 .left)) in
+    let s = reads-say (length (a .d .now)) (length (a .s .now)) (a .c) (a .x) (a .y) (a .z)
+    (test-holds (c .before .before .before .reads-fit .ensures) (c .before .before .if1 .left)) in
     (s .0, s .1, s .2, c .lift .ensures .1, c .lift .ensures .2)
 
 same-length : tie.Need-same-length

@@ -14,12 +14,17 @@ reads-fit-requires c κs = search needs
 returns : tie.Need-returns
 returns c =
     let a = c .before .before .before .before .args in
-    was-kept (readsFit (length (a .d .now)) (length (a .s .now)) 0 (a .x) (a .y) (a .z)) (a .d .now) (test-fails (c .before .reads-fit .ensures) (c .if1 .taken))
+    was-kept (readsFit (length (a .d .now)) (length (a .s .now)) 0 (a .x) (a .y) (a .z)) (a .d .now)
+    (test-fails (c .before .reads-fit .ensures) (c .if1 .taken))
 
 level-requires : tie.Need-level-requires
 level-requires c κs =
     let a = c .before .before .before .before .before .args in
-    omega (arith, reads-say (length (a .d .now)) (length (a .s .now)) 0 (a .x) (a .y) (a .z) (test-holds (c .before .before .reads-fit .ensures) (c .before .if1 .left)))
+    omega (
+      arith,
+      reads-say (length (a .d .now)) (length (a .s .now)) 0 (a .x) (a .y) (a .z)
+          (test-holds (c .before .before .reads-fit .ensures) (c .before .if1 .left)),
+    )
 
 same-length : tie.Need-same-length
 same-length c = search needs

@@ -24,7 +24,11 @@ room-requires-2 c κs = search needs
 returns-3 : tie.Need-returns-3
 returns-3 c =
     let a = c .before .before .before .before .before .args in
-    simp (le-leb (a .c) (a .m) (omega arith), test-holds (c .before .before .before .room .ensures) (c .before .before .if2 .left), test-fails (c .before .room2 .ensures) (c .if3 .taken))
+    simp (
+      le-leb (a .c) (a .m) (omega arith),
+      test-holds (c .before .before .before .room .ensures) (c .before .before .if2 .left),
+      test-fails (c .before .room2 .ensures) (c .if3 .taken),
+    )
 
 room-requires-3 : tie.Need-room-requires-3
 room-requires-3 c κs = search needs

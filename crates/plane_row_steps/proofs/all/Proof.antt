@@ -29,7 +29,8 @@ returns : tie.Need-returns
 returns c =
     let a = c .before .before .before .before .before .before .before .before .before .before .before .before .before .before .before .args in
     rw (c .before .before .before .before .before .before .before .before .before .before .before .before .if1 .taken)
-    (rowed-ahead (a .s) (a .mask) (a .src .now) (c .before .before .before .before .before .before .before .before .before .before .first-row .ensures) (c .before .before .before .before .before .before .next-row .ensures) (c .before .before .next-row2 .ensures))
+    (rowed-ahead (a .s) (a .mask) (a .src .now) (c .before .before .before .before .before .before .before .before .before .before .first-row .ensures)
+    (c .before .before .before .before .before .before .next-row .ensures) (c .before .before .next-row2 .ensures))
 
 first-row-requires-2 : tie.Need-first-row-requires-2
 first-row-requires-2 c κs = search needs
@@ -47,7 +48,8 @@ returns-2 : tie.Need-returns-2
 returns-2 c =
     let a = c .before .before .before .before .before .before .before .before .before .before .before .before .before .before .before .args in
     rw (c .before .before .before .before .before .before .before .before .before .before .before .before .if1 .left)
-    (rowed-back (a .s) (a .mask) (a .src .now) (c .before .before .before .before .before .before .before .before .before .before .first-row2 .ensures) (c .before .before .before .before .before .before .next-row3 .ensures) (c .before .before .next-row4 .ensures))
+    (rowed-back (a .s) (a .mask) (a .src .now) (c .before .before .before .before .before .before .before .before .before .before .first-row2 .ensures)
+    (c .before .before .before .before .before .before .next-row3 .ensures) (c .before .before .next-row4 .ensures))
 
 pub all-spec : {M : Type 1} → statement M
 all-spec =

@@ -24,7 +24,9 @@ same-length c = search needs
 returns : tie.Need-returns
 returns c =
     let a = c .before .before .before .before .before .before .before .before .before .args in
-    first-none (a .erode) (a .s .now) (a .o) (a .mask) (sym (c .before .before .before .before .before .before .first .ensures .0) ∙ c .before .before .before .before .before .if1 .taken) (rw (c .before .before .before .seed .ensures) at (c .before .before .fill .ensures))
+    first-none (a .erode) (a .s .now) (a .o) (a .mask)
+    (sym (c .before .before .before .before .before .before .first .ensures .0) ∙ c .before .before .before .before .before .if1 .taken)
+    (rw (c .before .before .before .seed .ensures) at (c .before .before .fill .ensures))
 
 read-requires : tie.Need-read-requires
 read-requires c κs = search needs
@@ -60,9 +62,13 @@ returns-2 c =
     let u = p .ensures .1 in
     let v = q .ensures .1 in
     let w = r .ensures .1 in
-    first-row (a .erode) (a .s .now) (a .o) (a .mask) (a .o + p .result) (a .o + q .result) (a .o + r .result) (some-set (f .0) (f .1) (c .before .before .before .before .before .before .before .if1 .left))
-    (stands (a .erode) (a .o) (a .mask) 0 0 (f .0) (p .ensures .0)) (stands (a .erode) (a .o) (a .mask) 0 1 (f .0) (q .ensures .0)) (stands (a .erode) (a .o) (a .mask) 0 2 (f .0) (r .ensures .0))
-    (c .before .before .level .ensures .done (reads-there (length (a .d .now)) (length (a .s .now)) 0 (a .o + p .result) (a .o + q .result) (a .o + r .result) (omega arith) (omega arith) (omega arith)))
+    first-row (a .erode) (a .s .now) (a .o) (a .mask) (a .o + p .result) (a .o + q .result) (a .o + r .result)
+    (some-set (f .0) (f .1) (c .before .before .before .before .before .before .before .if1 .left))
+    (stands (a .erode) (a .o) (a .mask) 0 0 (f .0) (p .ensures .0)) (stands (a .erode) (a .o) (a .mask) 0 1 (f .0) (q .ensures .0))
+    (stands (a .erode) (a .o) (a .mask) 0 2 (f .0) (r .ensures .0))
+    (c .before .before .level .ensures .done
+    (reads-there (length (a .d .now)) (length (a .s .now)) 0 (a .o + p .result) (a .o + q .result) (a .o + r .result) (omega arith) (omega arith)
+    (omega arith)))
 
 pub first-row-spec : {M : Type 1} → statement M
 first-row-spec =

@@ -56,8 +56,12 @@ returns-2 c =
     let w = r .ensures .1 in
     next-row (a .erode) (a .s .now) (a .o) (a .c) (a .mask) (maskRowOf (a .second)) (a .o + p .result) (a .o + q .result) (a .o + r .result)
     (rw e at (some-set (f .0) (f .1) (c .before .before .before .before .before .before .before .if1 .left)))
-    (rw e at (stands (a .erode) (a .o) (a .mask) (a .b) 0 (f .0) (p .ensures .0))) (rw e at (stands (a .erode) (a .o) (a .mask) (a .b) 1 (f .0) (q .ensures .0))) (rw e at (stands (a .erode) (a .o) (a .mask) (a .b) 2 (f .0) (r .ensures .0)))
-    (c .before .before .join .ensures .done (reads-there (length (a .d .now)) (length (a .s .now)) (a .c) (a .o + p .result) (a .o + q .result) (a .o + r .result) (omega arith) (omega arith) (omega arith)))
+    (rw e at (stands (a .erode) (a .o) (a .mask) (a .b) 0 (f .0) (p .ensures .0)))
+    (rw e at (stands (a .erode) (a .o) (a .mask) (a .b) 1 (f .0) (q .ensures .0)))
+    (rw e at (stands (a .erode) (a .o) (a .mask) (a .b) 2 (f .0) (r .ensures .0)))
+    (c .before .before .join .ensures .done
+    (reads-there (length (a .d .now)) (length (a .s .now)) (a .c) (a .o + p .result) (a .o + q .result) (a .o + r .result) (omega arith) (omega arith)
+    (omega arith)))
 
 pub next-row-spec : {M : Type 1} → statement M
 next-row-spec =

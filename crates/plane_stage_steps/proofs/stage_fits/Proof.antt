@@ -15,7 +15,8 @@ sides-requires c κs = search needs
 returns : tie.Need-returns
 returns c =
     let a = c .before .before .args in
-    first-fails (planeSides (a .outside) (a .gw) (a .gh)) (leb (planeSize (a .gw) (a .gh)) (a .n)) (leb (planeSize (a .gw) (a .gh)) (a .k)) (test-fails (c .before .sides .ensures) (c .if1 .taken))
+    first-fails (planeSides (a .outside) (a .gw) (a .gh)) (leb (planeSize (a .gw) (a .gh)) (a .n)) (leb (planeSize (a .gw) (a .gh)) (a .k))
+    (test-fails (c .before .sides .ensures) (c .if1 .taken))
 
 add-size : tie.Need-add-size
 add-size c =

@@ -56,9 +56,11 @@ returns c =
     let s = a .gw + 2 in
     let e = byteRows (a .gh) * s + s in
     let m = mid-len (s + 2) e (a .dst .now) (omega (arith, add-mul (byteRows (a .gh)) 2 s)) in
-    let there = rows-there (length (midOf (s + 2) (e - (s + 2)) (a .dst .now))) (length (a .src .now)) s (omega arith) (omega (arith, m, add-mul (byteRows (a .gh)) 2 s)) in
+    let there = rows-there (length (midOf (s + 2) (e - (s + 2)) (a .dst .now))) (length (a .src .now)) s (omega arith)
+    (omega (arith, m, add-mul (byteRows (a .gh)) 2 s)) in
     plane-taken (a .erode) (a .outside) (a .gw) (a .gh) (a .mask) (a .src .now) (a .dst .now) _ _ (omega arith) (omega arith) (omega arith)
-    (c .before .before .before .before .before .before .before .rows .ensures .done there) (rw (c .before .before .before .last-rows .ensures) at (c .before .before .bound .ensures))
+    (c .before .before .before .before .before .before .before .rows .ensures .done there)
+    (rw (c .before .before .before .last-rows .ensures) at (c .before .before .bound .ensures))
 
 pub take-spec : {M : Type 1} → statement M
 take-spec =

@@ -13,7 +13,8 @@ unpack-fits-requires c κs = search needs
 returns : tie.Need-returns
 returns c =
     let a = c .before .before .before .before .args in
-    was-kept (unpackFits (a .w) (a .h) (a .gw) (a .gh) (a .a) (a .b) (length (a .src .now)) (length (a .dst .now))) (a .dst .now) (test-fails (c .before .unpack-fits .ensures) (c .if1 .taken))
+    was-kept (unpackFits (a .w) (a .h) (a .gw) (a .gh) (a .a) (a .b) (length (a .src .now)) (length (a .dst .now))) (a .dst .now)
+    (test-fails (c .before .unpack-fits .ensures) (c .if1 .taken))
 
 down-requires : tie.Need-down-requires
 down-requires c κs =
@@ -28,7 +29,8 @@ returns-2 : tie.Need-returns-2
 returns-2 c =
     let a = c .before .before .before .before .before .before .before .before .args in
     was-done (unpackFits (a .w) (a .h) (a .gw) (a .gh) (a .a) (a .b) (length (a .src .now)) (length (a .dst .now))) (a .dst .now)
-    (test-holds (c .before .before .before .before .before .unpack-fits .ensures) (c .before .before .before .before .if1 .left)) (c .before .before .down .ensures)
+    (test-holds (c .before .before .before .before .before .unpack-fits .ensures) (c .before .before .before .before .if1 .left))
+    (c .before .before .down .ensures)
 
 pub unpack-spec : {M : Type 1} → statement M
 unpack-spec = tie.close (tie.spec unpack-fits-requires returns down-requires same-length returns-2)

@@ -18,7 +18,8 @@ sides-fit-requires c κs = search needs
 returns : tie.Need-returns
 returns c =
     let a = c .before .before .args in
-    first-fails (sidesFit (a .w) (a .h) (a .gw) (a .gh) (a .a) (a .b)) (leb (planeSize (a .gw) (a .gh)) (a .n)) (leb (a .w * a .h) (a .k)) (test-fails (c .before .sides-fit .ensures) (c .if1 .taken))
+    first-fails (sidesFit (a .w) (a .h) (a .gw) (a .gh) (a .a) (a .b)) (leb (planeSize (a .gw) (a .gh)) (a .n)) (leb (a .w * a .h) (a .k))
+    (test-fails (c .before .sides-fit .ensures) (c .if1 .taken))
 
 add-if2 : tie.Need-add-if2
 add-if2 c =
@@ -50,7 +51,8 @@ add-if2-4 c =
 returns-2 : tie.Need-returns-2
 returns-2 c =
     let a = c .before .before .before .args in
-    second-fails (sidesFit (a .w) (a .h) (a .gw) (a .gh) (a .a) (a .b)) (leb (planeSize (a .gw) (a .gh)) (a .n)) (leb (a .w * a .h) (a .k)) (test-holds (c .before .before .sides-fit .ensures) (c .before .if1 .left)) (lt-leb (planeSize (a .gw) (a .gh)) (a .n) (omega arith))
+    second-fails (sidesFit (a .w) (a .h) (a .gw) (a .gh) (a .a) (a .b)) (leb (planeSize (a .gw) (a .gh)) (a .n)) (leb (a .w * a .h) (a .k))
+    (test-holds (c .before .before .sides-fit .ensures) (c .before .if1 .left)) (lt-leb (planeSize (a .gw) (a .gh)) (a .n) (omega arith))
 
 mul-result : tie.Need-mul-result
 mul-result c =
@@ -61,7 +63,8 @@ mul-result c =
 returns-3 : tie.Need-returns-3
 returns-3 c =
     let a = c .before .before .before .args in
-    third (leb (a .w * a .h) (a .k)) (test-holds (c .before .before .sides-fit .ensures) (c .before .if1 .left)) (le-leb (planeSize (a .gw) (a .gh)) (a .n) (omega arith))
+    third (leb (a .w * a .h) (a .k)) (test-holds (c .before .before .sides-fit .ensures) (c .before .if1 .left))
+    (le-leb (planeSize (a .gw) (a .gh)) (a .n) (omega arith))
 
 pub unpack-fits-spec : {M : Type 1} → statement M
 unpack-fits-spec =

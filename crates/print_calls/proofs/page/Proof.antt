@@ -19,16 +19,24 @@ unreadable-page-requires-2 : tie.Need-unreadable-page-requires-2
 unreadable-page-requires-2 c κs = search needs
 
 returns-2 : tie.Need-returns-2
-returns-2 c = (answers-begun _ _ (c .before .before .before .if1 .left) (λ z. omega arith) (c .unreadable-page2 .ensures), page-rest _ _ (c .unreadable-page2 .ensures))
+returns-2 c = (
+  answers-begun _ _ (c .before .before .before .if1 .left) (λ z. omega arith) (c .unreadable-page2 .ensures),
+  page-rest _ _ (c .unreadable-page2 .ensures),
+)
 
 unreadable-page-requires-3 : tie.Need-unreadable-page-requires-3
 unreadable-page-requires-3 c κs = search needs
 
 returns-3 : tie.Need-returns-3
-returns-3 c = (answers-none _ _ (c .before .before .before .before .before .if1 .left) (omega arith) (c .unreadable-page3 .ensures), page-rest _ _ (c .unreadable-page3 .ensures))
+returns-3 c = (
+  answers-none _ _ (c .before .before .before .before .before .if1 .left) (omega arith) (c .unreadable-page3 .ensures),
+  page-rest _ _ (c .unreadable-page3 .ensures),
+)
 
 array-share-prefix-words : tie.Need-array-share-prefix-words
-array-share-prefix-words c = let st = c .before .before .before .before .before in let n = st .good .0 .1 .1 .1 .1 .0 .1 .0 .1 in omega (arith, length-map (st .args .s .words) (λ v. v))
+array-share-prefix-words c =
+    let st = c .before .before .before .before .before in
+    let n = st .good .0 .1 .1 .1 .1 .0 .1 .0 .1 in omega (arith, length-map (st .args .s .words) (λ v. v))
 
 slice-aggregate-planned : tie.Need-slice-aggregate-planned
 slice-aggregate-planned c =

@@ -54,8 +54,10 @@ returns-2 c =
     (shows-part _ _ _ _ (k .answer .given .1) (omega arith) (c .words-page2 .ensures), page-rest _ _ (c .words-page2 .ensures))
 
 returns-3 : tie.Need-returns-3
-returns-3 c =
-    (shows-refused _ _ _ _ _ (c .before .before .before .answer2 .given .1) (c .before .number .ensures) (c .refused-page .ensures), page-rest _ _ (c .refused-page .ensures))
+returns-3 c = (
+  shows-refused _ _ _ _ _ (c .before .before .before .answer2 .given .1) (c .before .number .ensures) (c .refused-page .ensures),
+  page-rest _ _ (c .refused-page .ensures),
+)
 
 pub shown-spec : {M : Type 1} → statement M
 shown-spec =

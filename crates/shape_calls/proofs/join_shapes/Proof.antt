@@ -22,7 +22,8 @@ returns : tie.Need-returns
 returns c =
     let t = c .before .before .before in
     let st = t .before .before .before .before in
-    refused-first (both (shapeTests (st .args .ws .now)) (shapeTests (st .args .vs .now))) (t .shapes-refusal .result) _ (t .shapes-refusal .ensures) (c .before .tested .given .1) _ refl refl
+    refused-first (both (shapeTests (st .args .ws .now)) (shapeTests (st .args .vs .now))) (t .shapes-refusal .result) _ (t .shapes-refusal .ensures)
+    (c .before .tested .given .1) _ refl refl
 
 enum-told : tie.Need-enum-told
 enum-told c = search needs

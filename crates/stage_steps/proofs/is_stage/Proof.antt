@@ -19,10 +19,16 @@ add-if3-2 : tie.Need-add-if3-2
 add-if3-2 c = search needs
 
 returns-3 : tie.Need-returns-3
-returns-3 c = sym (stage-is (c .before .before .before .args .mask) (c .before .before .if1 .left) ∙ simp (ne-eqb _ _ (c .before .if2 .left), eq-eqb _ _ (c .if3 .taken)))
+returns-3 c =
+    sym
+    (stage-is (c .before .before .before .args .mask) (c .before .before .if1 .left)
+    ∙ simp (ne-eqb _ _ (c .before .if2 .left), eq-eqb _ _ (c .if3 .taken)))
 
 returns-4 : tie.Need-returns-4
-returns-4 c = sym (stage-is (c .before .before .before .args .mask) (c .before .before .if1 .left) ∙ simp (ne-eqb _ _ (c .before .if2 .left), ne-eqb _ _ (c .if3 .left)))
+returns-4 c =
+    sym
+    (stage-is (c .before .before .before .args .mask) (c .before .before .if1 .left)
+    ∙ simp (ne-eqb _ _ (c .before .if2 .left), ne-eqb _ _ (c .if3 .left)))
 
 pub is-stage-spec : {M : Type 1} → statement M
 is-stage-spec = tie.close (tie.spec returns returns-2 add-if3 add-if3-2 returns-3 returns-4)

@@ -32,7 +32,8 @@ slice-write-out : tie.Need-slice-write-out Inv-loop μ-loop
 slice-write-out c = search needs
 
 loop-holds : tie.Need-loop-holds Inv-loop μ-loop
-loop-holds c = (omega arith, search needs, writing-first (c .before .args .ax) (c .before .args .ay) (c .before .args .t3) (c .before .args .out .now) (omega arith))
+loop-holds c =
+    (omega arith, search needs, writing-first (c .before .args .ax) (c .before .args .ay) (c .before .args .t3) (c .before .args .out .now) (omega arith))
 
 cast-columns : tie.Need-cast-columns Inv-loop μ-loop
 cast-columns c = search needs

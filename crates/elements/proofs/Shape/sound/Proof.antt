@@ -21,7 +21,10 @@ returns-2 : tie.Need-returns-2
 returns-2 c =
     let st = c .before .before .before .before .before in
     let n = c .before .first-row in
-    answer-no (λ S. c .if2 .taken (least-once row (At (st .args .self .rows)) (n .result) 0 (first-at row (At (st .args .self .rows)) (n .result) (n .ensures) (some (S .top))) (S .top)))
+    answer-no
+    (λ S. c .if2 .taken
+    (least-once row (At (st .args .self .rows)) (n .result) 0 (first-at row (At (st .args .self .rows)) (n .result) (n .ensures) (some (S .top)))
+    (S .top)))
 
 first-column-requires : tie.Need-first-column-requires
 first-column-requires c κs = search needs
@@ -30,7 +33,10 @@ returns-3 : tie.Need-returns-3
 returns-3 c =
     let st = c .before .before .before .before .before .before .before in
     let n = c .before .first-column in
-    answer-no (λ S. c .if3 .taken (least-once column (At (st .args .self .rows)) (n .result) 0 (first-at column (At (st .args .self .rows)) (n .result) (n .ensures) (some (S .left))) (S .left)))
+    answer-no
+    (λ S. c .if3 .taken
+    (least-once column (At (st .args .self .rows)) (n .result) 0 (first-at column (At (st .args .self .rows)) (n .result) (n .ensures) (some (S .left)))
+    (S .left)))
 
 cast-within : tie.Need-cast-within
 cast-within c = search needs
@@ -45,7 +51,8 @@ returns-4 c =
     let w = field16 (s .rows) _ (st .good .0 .1 .1 .1 .1 .1 .0) in
     let r = c .before .before .before .before .before .first-row in
     let k = c .before .before .before .first-column in (
-      λ t. is-sound s w (not-false _ (c .before .before .before .before .before .before .if1 .left)) (subst (FirstOf row (At (s .rows))) (c .before .before .before .before .if2 .left) (r .ensures))
+      λ t. is-sound s w (not-false _ (c .before .before .before .before .before .before .if1 .left))
+          (subst (FirstOf row (At (s .rows))) (c .before .before .before .before .if2 .left) (r .ensures))
           (subst (FirstOf column (At (s .rows))) (c .before .before .if3 .left) (k .ensures)) (c .within .ensures .0 t),
       λ f S. c .within .ensures .1 f (some (S .top)) (sound-within s w S),
     )

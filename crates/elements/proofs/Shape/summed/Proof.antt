@@ -24,7 +24,8 @@ returns-2 : tie.Need-returns-2
 returns-2 c = made-none _ _ _ (λ S. c .before .before .sound2 .ensures .1 (not-true _ (c .before .if2 .taken)) (S .1)) (c .nothing2 .ensures)
 
 sum-requires : tie.Need-sum-requires
-sum-requires c κs = (c .before .before .before .sound .ensures .0 (not-false _ (c .before .before .if1 .left)), c .before .sound2 .ensures .0 (not-false _ (c .if2 .left)))
+sum-requires c κs =
+    (c .before .before .before .sound .ensures .0 (not-false _ (c .before .before .if1 .left)), c .before .sound2 .ensures .0 (not-false _ (c .if2 .left)))
 
 returns-3 : tie.Need-returns-3
 returns-3 c = search needs

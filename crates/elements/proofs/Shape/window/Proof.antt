@@ -29,7 +29,8 @@ returns c =
     let i = c .before .before .above3 in
     let j = c .before .above4 in
     let r = c .raised in
-    window-is (c .before .before .before .before .before .before .args .self) (ax .result) (ay .result) (i .result) (j .result) (r .result) (ax .ensures) (ay .ensures) (i .ensures) (j .ensures) (r .ensures)
+    window-is (c .before .before .before .before .before .before .args .self) (ax .result) (ay .result) (i .result) (j .result) (r .result) (ax .ensures)
+    (ay .ensures) (i .ensures) (j .ensures) (r .ensures)
 
 pub window-spec : {M : Type 1} → statement M
 window-spec =

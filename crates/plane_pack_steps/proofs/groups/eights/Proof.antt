@@ -97,8 +97,10 @@ loop-less c = search needs
 loop-again : tie.Need-loop-again Inv-loop μ-loop
 loop-again c =
     let l = c .before .before .before .before .before .before .before .before .before .before .loop in
-    let a = c .before .before .before .before .before .before .before .before .before .before .before .before .before .args in
-    (omega arith, bitted-more (c .eight .result) (l .inv .1) (omega arith) (λ q lq. eight-bits (a .s .now) (a .w) (l .k) (c .eight .result) q lq (c .eight .ensures)))
+    let a = c .before .before .before .before .before .before .before .before .before .before .before .before .before .args in (
+      omega arith,
+      bitted-more (c .eight .result) (l .inv .1) (omega arith) (λ q lq. eight-bits (a .s .now) (a .w) (l .k) (c .eight .result) q lq (c .eight .ensures)),
+    )
 
 same-length : tie.Need-same-length Inv-loop μ-loop
 same-length c = search needs

@@ -27,16 +27,24 @@ fill-requires : tie.Need-fill-requires Inv-loop μ-loop
 fill-requires c κs = search needs
 
 loop-holds : tie.Need-loop-holds Inv-loop μ-loop
-loop-holds c = let a = c .before .before .before .before .before .before .args in (omega arith, few-none (a .s .now) (a .w) (a .r) (a .outside) (c .before .before .fill .ensures))
+loop-holds c =
+    let a = c .before .before .before .before .before .before .args in
+    (omega arith, few-none (a .s .now) (a .w) (a .r) (a .outside) (c .before .before .fill .ensures))
 
 mul-lay : tie.Need-mul-lay Inv-loop μ-loop
-mul-lay c = let a = c .before .before .before .before .before .before .before .before .before .args in omega (arith, rows-apart (a .w) (c .before .before .loop .j) (a .r) (omega arith))
+mul-lay c =
+    let a = c .before .before .before .before .before .before .before .before .before .args in
+    omega (arith, rows-apart (a .w) (c .before .before .loop .j) (a .r) (omega arith))
 
 mul-lay-2 : tie.Need-mul-lay-2 Inv-loop μ-loop
-mul-lay-2 c = let a = c .before .before .before .before .before .before .before .before .before .args in omega (arith, rows-apart (a .w) (c .before .before .loop .j) (a .r) (omega arith))
+mul-lay-2 c =
+    let a = c .before .before .before .before .before .before .before .before .before .args in
+    omega (arith, rows-apart (a .w) (c .before .before .loop .j) (a .r) (omega arith))
 
 add-lay : tie.Need-add-lay Inv-loop μ-loop
-add-lay c = let a = c .before .before .before .before .before .before .before .before .before .args in omega (arith, rows-apart (a .w) (c .before .before .loop .j) (a .r) (omega arith))
+add-lay c =
+    let a = c .before .before .before .before .before .before .before .before .before .args in
+    omega (arith, rows-apart (a .w) (c .before .before .loop .j) (a .r) (omega arith))
 
 sub-lay : tie.Need-sub-lay Inv-loop μ-loop
 sub-lay c = search needs
@@ -45,7 +53,9 @@ part-lay-start : tie.Need-part-lay-start Inv-loop μ-loop
 part-lay-start c = search needs
 
 part-lay-end : tie.Need-part-lay-end Inv-loop μ-loop
-part-lay-end c = let a = c .before .before .before .before .before .before .before .before .before .args in omega (arith, rows-apart (a .w) (c .before .before .loop .j) (a .r) (omega arith))
+part-lay-end c =
+    let a = c .before .before .before .before .before .before .before .before .before .args in
+    omega (arith, rows-apart (a .w) (c .before .before .loop .j) (a .r) (omega arith))
 
 lay-requires : tie.Need-lay-requires Inv-loop μ-loop
 lay-requires c κs =
@@ -64,8 +74,12 @@ loop-less c = search needs
 loop-again : tie.Need-loop-again Inv-loop μ-loop
 loop-again c =
     let a = c .before .before .before .before .before .before .before .before .before .before .before .before .before .args in
-    let l = c .before .before .before .before .before .before .loop in
-    (omega arith, few-more (a .s .now) (a .w) (a .r) (a .outside) (l .j) (omega arith) (omega arith) (omega arith) (omega (arith, c .before .before .before .before .before .before .before .before .before .fill .ensures .len)) (l .inv .1) (c .before .before .lay .ensures))
+    let l = c .before .before .before .before .before .before .loop in (
+      omega arith,
+      few-more (a .s .now) (a .w) (a .r) (a .outside) (l .j) (omega arith) (omega arith) (omega arith)
+          (omega (arith, c .before .before .before .before .before .before .before .before .before .fill .ensures .len)) (l .inv .1)
+          (c .before .before .lay .ensures),
+    )
 
 same-length : tie.Need-same-length Inv-loop μ-loop
 same-length c = search needs

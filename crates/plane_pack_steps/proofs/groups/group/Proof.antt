@@ -14,7 +14,9 @@ same-length : tie.Need-same-length
 same-length c = search needs
 
 returns : tie.Need-returns
-returns c = let a = c .before .before .before .before .before .before .before .args in eight-all (a .s .now) (a .w) (a .r) (a .outside) (c .before .before .before .before .if1 .taken) (c .before .before .halves .ensures)
+returns c =
+    let a = c .before .before .before .before .before .before .before .args in
+    eight-all (a .s .now) (a .w) (a .r) (a .outside) (c .before .before .before .before .if1 .taken) (c .before .before .halves .ensures)
 
 few-requires : tie.Need-few-requires
 few-requires c κs = search needs

@@ -104,7 +104,9 @@ loop-again c =
           ∙ ap (λ (n : ℕ). pickOf (a .erode) (bit n q) (bit (c .before .raised .result) q)) (l .inv .1 .above (l .k) (omega arith))
           ∙ ap (λ (n : ℕ). pickOf (a .erode) (bit (getD (a .d .now) (l .k) 0) q) n)
           (c .before .raised .ensures q lq
-          ∙ spanned-three (a .erode) (high .result) (low .result) (getD s (l .k + a .x + a .c) 0) (getD s (l .k + a .y + a .c) 0) (getD s (l .k + a .z + a .c) 0) (getD s (l .k + a .x) 0) (getD s (l .k + a .y) 0) (getD s (l .k + a .z) 0) (a .t) q (high .ensures) (low .ensures))),
+          ∙ spanned-three (a .erode) (high .result) (low .result) (getD s (l .k + a .x + a .c) 0) (getD s (l .k + a .y + a .c) 0)
+          (getD s (l .k + a .z + a .c) 0) (getD s (l .k + a .x) 0) (getD s (l .k + a .y) 0) (getD s (l .k + a .z) 0) (a .t) q (high .ensures)
+          (low .ensures))),
     )
 
 same-length : tie.Need-same-length Inv-loop μ-loop

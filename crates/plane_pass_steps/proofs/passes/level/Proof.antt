@@ -50,7 +50,8 @@ loop-less : tie.Need-loop-less Inv-loop μ-loop
 loop-less c = search needs
 
 loop-again : tie.Need-loop-again Inv-loop μ-loop
-loop-again c = (omega arith, bitted-more (c .three .result) (c .before .before .before .before .before .loop .inv .1) (omega arith) (λ q l. c .three .ensures q))
+loop-again c =
+    (omega arith, bitted-more (c .three .result) (c .before .before .before .before .before .loop .inv .1) (omega arith) (λ q l. c .three .ensures q))
 
 same-length : tie.Need-same-length Inv-loop μ-loop
 same-length c = search needs

@@ -58,7 +58,9 @@ returns c =
     let st = c .before .before .before .before .before .before .before .before .before .before .before .before .before .before in
     let a = st .args in
     rw (c .if1 .taken)
-    (bounds-made (a .s) (a .n) 8 (a .outside) (st .pre .0) (st .pre .1) (st .pre .4) (c .before .before .before .before .before .before .before .before .before .before .before .fill .ensures) (c .before .before .before .before .before .before .before .fill2 .ensures) (c .before .before .before .pads .ensures)
+    (bounds-made (a .s) (a .n) 8 (a .outside) (st .pre .0) (st .pre .1) (st .pre .4)
+    (c .before .before .before .before .before .before .before .before .before .before .before .fill .ensures)
+    (c .before .before .before .before .before .before .before .fill2 .ensures) (c .before .before .before .pads .ensures)
     (λ h g. trimmed-none (a .outside) (a .n * a .s + 2) (a .n * a .s + a .s) _))
 
 add-trim : tie.Need-add-trim
@@ -84,9 +86,13 @@ same-length-2 c = search needs
 
 returns-2 : tie.Need-returns-2
 returns-2 c =
-    let st = c .before .before .before .before .before .before .before .before .before .before .before .before .before .before .before .before .before .before in
+    let st =
+    c .before .before .before .before .before .before .before .before .before .before .before .before .before .before .before .before .before .before in
     let a = st .args in
-    bounds-made (a .s) (a .n) (a .r) (a .outside) (st .pre .0) (st .pre .1) (st .pre .4) (c .before .before .before .before .before .before .before .before .before .before .before .before .before .before .before .fill .ensures) (c .before .before .before .before .before .before .before .before .before .before .before .fill2 .ensures) (c .before .before .before .before .before .before .before .pads .ensures)
+    bounds-made (a .s) (a .n) (a .r) (a .outside) (st .pre .0) (st .pre .1) (st .pre .4)
+    (c .before .before .before .before .before .before .before .before .before .before .before .before .before .before .before .fill .ensures)
+    (c .before .before .before .before .before .before .before .before .before .before .before .fill2 .ensures)
+    (c .before .before .before .before .before .before .before .pads .ensures)
     (λ h g. trimmed-part (a .r) (a .outside) h g (c .before .before .trim .ensures))
 
 pub bound-spec : {M : Type 1} → statement M

@@ -30,7 +30,14 @@ add-d : tie.Need-add-d Inv-loop μ-loop
 add-d c = let a = c .before .before .args in omega (arith, rows-apart (a .s) (c .before .loop .r) (a .n) (omega arith), c .before .loop .inv .2 .len)
 
 slice-write-d-2 : tie.Need-slice-write-d-2 Inv-loop μ-loop
-slice-write-d-2 c = let a = c .before .before .args in omega (arith, length-set (c .before .loop .d) (c .before .loop .p + a .s) (a .outside), rows-apart (a .s) (c .before .loop .r) (a .n) (omega arith), c .before .loop .inv .2 .len)
+slice-write-d-2 c =
+    let a = c .before .before .args in
+    omega (
+      arith,
+      length-set (c .before .loop .d) (c .before .loop .p + a .s) (a .outside),
+      rows-apart (a .s) (c .before .loop .r) (a .n) (omega arith),
+      c .before .loop .inv .2 .len,
+    )
 
 add-r : tie.Need-add-r Inv-loop μ-loop
 add-r c = search needs

@@ -25,7 +25,10 @@ same-length c = search needs
 returns : tie.Need-returns
 returns c =
     let a = c .before .before .before .before .before .before .before .args in
-    ranged-ap (c .before .before .fill .ensures) (λ k lo hi. sym (seen-above (a .outside) (a .gw) (a .gh) (planeCells (a .gw) (a .gh) (a .src .now)) (k + a .a) (a .t) (c .before .before .before .before .if1 .taken)))
+    ranged-ap (c .before .before .fill .ensures)
+    (λ k lo hi. sym
+    (seen-above (a .outside) (a .gw) (a .gh) (planeCells (a .gw) (a .gh) (a .src .now)) (k + a .a) (a .t)
+    (c .before .before .before .before .if1 .taken)))
 
 fill-requires-2 : tie.Need-fill-requires-2
 fill-requires-2 c κs = search needs
@@ -36,7 +39,10 @@ same-length-2 c = search needs
 returns-2 : tie.Need-returns-2
 returns-2 c =
     let a = c .before .before .before .before .before .before .before .before .args in
-    ranged-ap (c .before .before .fill2 .ensures) (λ k lo hi. sym (seen-under (a .outside) (a .gw) (a .gh) (planeCells (a .gw) (a .gh) (a .src .now)) (k + a .a) (a .t) (omega arith) (c .before .before .before .before .if2 .taken)))
+    ranged-ap (c .before .before .fill2 .ensures)
+    (λ k lo hi. sym
+    (seen-under (a .outside) (a .gw) (a .gh) (planeCells (a .gw) (a .gh) (a .src .now)) (k + a .a) (a .t) (omega arith)
+    (c .before .before .before .before .if2 .taken)))
 
 add-q : tie.Need-add-q
 add-q c = search needs
@@ -45,13 +51,19 @@ add-q-2 : tie.Need-add-q-2
 add-q-2 c = search needs
 
 mul-q : tie.Need-mul-q
-mul-q c = let a = c .before .before .before .before .args in omega (arith, row-fits (a .gw) (a .gh) (a .t - 15) (omega arith), size-small (a .gw) (a .gh) (omega arith) (omega arith))
+mul-q c =
+    let a = c .before .before .before .before .args in
+    omega (arith, row-fits (a .gw) (a .gh) (a .t - 15) (omega arith), size-small (a .gw) (a .gh) (omega arith) (omega arith))
 
 add-q-3 : tie.Need-add-q-3
-add-q-3 c = let a = c .before .before .before .before .args in omega (arith, row-fits (a .gw) (a .gh) (a .t - 15) (omega arith), size-small (a .gw) (a .gh) (omega arith) (omega arith))
+add-q-3 c =
+    let a = c .before .before .before .before .args in
+    omega (arith, row-fits (a .gw) (a .gh) (a .t - 15) (omega arith), size-small (a .gw) (a .gh) (omega arith) (omega arith))
 
 add-line : tie.Need-add-line
-add-line c = let a = c .before .before .before .before .args in omega (arith, row-fits (a .gw) (a .gh) (a .t - 15) (omega arith), size-small (a .gw) (a .gh) (omega arith) (omega arith))
+add-line c =
+    let a = c .before .before .before .before .args in
+    omega (arith, row-fits (a .gw) (a .gh) (a .t - 15) (omega arith), size-small (a .gw) (a .gh) (omega arith) (omega arith))
 
 sub-line : tie.Need-sub-line
 sub-line c = search needs
@@ -60,7 +72,9 @@ part-line-start : tie.Need-part-line-start
 part-line-start c = search needs
 
 part-line-end : tie.Need-part-line-end
-part-line-end c = let a = c .before .before .before .before .args in omega (arith, row-fits (a .gw) (a .gh) (a .t - 15) (omega arith), size-small (a .gw) (a .gh) (omega arith) (omega arith))
+part-line-end c =
+    let a = c .before .before .before .before .args in
+    omega (arith, row-fits (a .gw) (a .gh) (a .t - 15) (omega arith), size-small (a .gw) (a .gh) (omega arith) (omega arith))
 
 cast-line : tie.Need-cast-line
 cast-line c = search needs

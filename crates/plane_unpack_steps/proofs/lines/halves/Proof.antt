@@ -71,7 +71,8 @@ returns-2 c =
     let a = c .before .before .before .before .before .before .before .before .before .before .before .before .args in
     let n = length (a .d .now) in
     let g = half-of n (c .before .before .before .before .before .before .before .before .before .if1 .left) in
-    halves-made (a .j) ((n - n / 2 + 31) / 32 * 32) (a .s .now) (a .d .now) (g .0) (g .1) (c .before .before .before .before .before .before .before .cells2 .ensures) (c .before .before .cells3 .ensures)
+    halves-made (a .j) ((n - n / 2 + 31) / 32 * 32) (a .s .now) (a .d .now) (g .0) (g .1)
+    (c .before .before .before .before .before .before .before .cells2 .ensures) (c .before .before .cells3 .ensures)
 
 pub halves-spec : {M : Type 1} → statement M
 halves-spec =

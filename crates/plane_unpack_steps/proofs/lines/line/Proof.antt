@@ -31,7 +31,9 @@ returns c =
     let at-if = c .before .before .before .before in
     let a = at-if .before .before .before .before .before .args in
     ranged-ap (c .before .before .fill .ensures)
-    (λ k lo hi. sym (none-seen (a .outside) (length (a .row .now)) (λ i. bit (getD (a .row .now) i 0) (a .j)) (at-if .before .before .edge .ensures) (at-if .before .edge2 .ensures) k (at-if .if1 .taken) hi))
+    (λ k lo hi. sym
+    (none-seen (a .outside) (length (a .row .now)) (λ i. bit (getD (a .row .now) i 0) (a .j)) (at-if .before .before .edge .ensures)
+    (at-if .before .edge2 .ensures) k (at-if .if1 .taken) hi))
 
 sub-fill : tie.Need-sub-fill
 sub-fill c = search needs
@@ -58,13 +60,19 @@ add-halves : tie.Need-add-halves
 add-halves c = search needs
 
 sub-halves-2 : tie.Need-sub-halves-2
-sub-halves-2 c = between (c .before .before .before .before .before .before .before .edge .ensures) (c .before .before .before .before .before .before .edge2 .ensures) (c .before .before .before .before .before .if1 .left) .0
+sub-halves-2 c =
+    between (c .before .before .before .before .before .before .before .edge .ensures) (c .before .before .before .before .before .before .edge2 .ensures)
+    (c .before .before .before .before .before .if1 .left) .0
 
 sub-halves-3 : tie.Need-sub-halves-3
-sub-halves-3 c = part-begins (c .before .before .before .before .before .before .before .edge .ensures) (c .before .before .before .before .before .before .edge2 .ensures) (c .before .before .before .before .before .if1 .left)
+sub-halves-3 c =
+    part-begins (c .before .before .before .before .before .before .before .edge .ensures)
+    (c .before .before .before .before .before .before .edge2 .ensures) (c .before .before .before .before .before .if1 .left)
 
 part-halves-start-2 : tie.Need-part-halves-start-2
-part-halves-start-2 c = part-begins (c .before .before .before .before .before .before .before .edge .ensures) (c .before .before .before .before .before .before .edge2 .ensures) (c .before .before .before .before .before .if1 .left)
+part-halves-start-2 c =
+    part-begins (c .before .before .before .before .before .before .before .edge .ensures)
+    (c .before .before .before .before .before .before .edge2 .ensures) (c .before .before .before .before .before .if1 .left)
 
 part-halves-end-2 : tie.Need-part-halves-end-2
 part-halves-end-2 c = search needs
@@ -73,8 +81,11 @@ halves-requires : tie.Need-halves-requires
 halves-requires c κs =
     let at-if = c .before .before .before .before .before .before in
     let st = at-if .before .before .before .before .before in
-    let a = st .args in
-    (run-fits (a .outside) (a .a) (a .row .now) (a .d .now) (at-if .before .before .edge .ensures) (at-if .before .edge2 .ensures) (at-if .if1 .left) (c .before .before .before .before .fill2 .ensures), st .pre .2)
+    let a = st .args in (
+      run-fits (a .outside) (a .a) (a .row .now) (a .d .now) (at-if .before .before .edge .ensures) (at-if .before .edge2 .ensures) (at-if .if1 .left)
+          (c .before .before .before .before .fill2 .ensures),
+      st .pre .2,
+    )
 
 sub-fill-2 : tie.Need-sub-fill-2
 sub-fill-2 c = search needs
@@ -100,7 +111,8 @@ returns-2 c =
     let row = a .row .now in
     three-runs (a .outside) (length row) (a .a) (λ i. bit (getD row i 0) (a .j)) (a .d .now) (p .ensures) (e .ensures) (at-if .if1 .left)
     (c .before .before .before .before .before .before .before .before .before .before .before .fill2 .ensures)
-    (λ h g u. part-bits (a .j) (p .result + a .a - 15) row {a = p .result} {e = e .result} h g u (c .before .before .before .before .before .before .halves .ensures))
+    (λ h g u. part-bits (a .j) (p .result + a .a - 15) row {a = p .result} {e = e .result} h g u
+    (c .before .before .before .before .before .before .halves .ensures))
     (c .before .before .fill3 .ensures)
 
 pub line-spec : {M : Type 1} → statement M

@@ -36,7 +36,8 @@ returns c =
     let b = c .before .before .before .before .before .before .ahead2 in
     let x = a .ensures in
     let y = b .ensures in
-    let fits = room-cut (st .pre .2) (st .args .first .now) (st .args .second .now) (st .pre .2 .first) (st .pre .2 .second) (a .result) (b .result) (omega (arith, x, ahead-small (st .args .op) (placeX p) (st .pre .0))) (omega (arith, y, ahead-small (st .args .op) (placeY p) (st .pre .1))) in
+    let fits = room-cut (st .pre .2) (st .args .first .now) (st .args .second .now) (st .pre .2 .first) (st .pre .2 .second) (a .result) (b .result)
+    (omega (arith, x, ahead-small (st .args .op) (placeX p) (st .pre .0))) (omega (arith, y, ahead-small (st .args .op) (placeY p) (st .pre .1))) in
     away-first p x y (c .before .before .before .before .before .if1 .taken) (c .before .before .unpack .ensures .done fits)
 
 add-unpack-3 : tie.Need-add-unpack-3
@@ -62,7 +63,8 @@ returns-2 c =
     let b = c .before .before .before .before .before .before .ahead2 in
     let x = a .ensures in
     let y = b .ensures in
-    let fits = room-cut (st .pre .2) (st .args .second .now) (st .args .first .now) (st .pre .2 .second) (st .pre .2 .first) (a .result) (b .result) (omega (arith, x, ahead-small (st .args .op) (placeX p) (st .pre .0))) (omega (arith, y, ahead-small (st .args .op) (placeY p) (st .pre .1))) in
+    let fits = room-cut (st .pre .2) (st .args .second .now) (st .args .first .now) (st .pre .2 .second) (st .pre .2 .first) (a .result) (b .result)
+    (omega (arith, x, ahead-small (st .args .op) (placeX p) (st .pre .0))) (omega (arith, y, ahead-small (st .args .op) (placeY p) (st .pre .1))) in
     away-second p x y (c .before .before .before .before .before .if1 .left) (c .before .before .unpack2 .ensures .done fits)
 
 pub cut-spec : {M : Type 1} → statement M

@@ -28,7 +28,9 @@ cast-turn : tie.Need-cast-turn Inv-loop μ-loop
 cast-turn c = search needs
 
 turn-requires : tie.Need-turn-requires Inv-loop μ-loop
-turn-requires c κs = let m = c .before .before .before .before .loop .inv .2 in room-past (c .before .before .before .before .before .before .before .before .pre .1) (m .first) (m .second)
+turn-requires c κs =
+    let m = c .before .before .before .before .loop .inv .2 in
+    room-past (c .before .before .before .before .before .before .before .before .pre .1) (m .first) (m .second)
 
 add-n : tie.Need-add-n Inv-loop μ-loop
 add-n c =

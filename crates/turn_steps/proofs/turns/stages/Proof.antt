@@ -57,7 +57,8 @@ same-length-4 : tie.Need-same-length-4
 same-length-4 c = search needs
 
 returns-2 : tie.Need-returns-2
-returns-2 c = erosion-ends _ (c .before .before .before .before .before .before .before .enum-told2 .given .1) (c .before .before .before .before .pass2 .ensures)
+returns-2 c =
+    erosion-ends _ (c .before .before .before .before .before .before .before .enum-told2 .given .1) (c .before .before .before .before .pass2 .ensures)
 
 same-length-5 : tie.Need-same-length-5
 same-length-5 c = search needs
@@ -66,7 +67,10 @@ same-length-6 : tie.Need-same-length-6
 same-length-6 c = search needs
 
 returns-3 : tie.Need-returns-3
-returns-3 c = opening-ends _ (c .before .before .before .before .before .before .before .before .before .before .before .before .before .before .enum-told3 .given .1) (c .before .before .before .before .before .before .before .before .before .before .before .pass3 .ensures) (c .before .before .before .before .pass4 .ensures)
+returns-3 c =
+    opening-ends _ (c .before .before .before .before .before .before .before .before .before .before .before .before .before .before .enum-told3 .given .1)
+    (c .before .before .before .before .before .before .before .before .before .before .before .pass3 .ensures)
+    (c .before .before .before .before .pass4 .ensures)
 
 same-length-7 : tie.Need-same-length-7
 same-length-7 c = search needs
@@ -75,7 +79,10 @@ same-length-8 : tie.Need-same-length-8
 same-length-8 c = search needs
 
 returns-4 : tie.Need-returns-4
-returns-4 c = closing-ends _ (c .before .before .before .before .before .before .before .before .before .before .before .before .before .before .enum-told4 .given .1) (c .before .before .before .before .before .before .before .before .before .before .before .pass5 .ensures) (c .before .before .before .before .pass6 .ensures)
+returns-4 c =
+    closing-ends _ (c .before .before .before .before .before .before .before .before .before .before .before .before .before .before .enum-told4 .given .1)
+    (c .before .before .before .before .before .before .before .before .before .before .before .pass5 .ensures)
+    (c .before .before .before .before .pass6 .ensures)
 
 pub stages-spec : {M : Type 1} → statement M
 stages-spec =

@@ -22,7 +22,8 @@ same-length-2 c = search needs
 returns : tie.Need-returns
 returns c =
     let st = c .before .before .before .before .before .before .before .before in
-    from-first (c .before .before .before .before .before .if1 .taken) (c .before .before .stage .ensures .done (room-stage (st .pre) (st .args .first .now) (st .args .second .now) (st .pre .first) (st .pre .second)))
+    from-first (c .before .before .before .before .before .if1 .taken)
+    (c .before .before .stage .ensures .done (room-stage (st .pre) (st .args .first .now) (st .args .second .now) (st .pre .first) (st .pre .second)))
 
 add-stage-3 : tie.Need-add-stage-3
 add-stage-3 c = search needs
@@ -42,7 +43,8 @@ same-length-4 c = search needs
 returns-2 : tie.Need-returns-2
 returns-2 c =
     let st = c .before .before .before .before .before .before .before .before in
-    from-second (c .before .before .before .before .before .if1 .left) (c .before .before .stage2 .ensures .done (room-stage (st .pre) (st .args .second .now) (st .args .first .now) (st .pre .second) (st .pre .first)))
+    from-second (c .before .before .before .before .before .if1 .left)
+    (c .before .before .stage2 .ensures .done (room-stage (st .pre) (st .args .second .now) (st .args .first .now) (st .pre .second) (st .pre .first)))
 
 pub turn-spec : {M : Type 1} → statement M
 turn-spec =
