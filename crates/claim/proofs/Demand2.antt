@@ -21,7 +21,7 @@ use Rattle.shapes.specs.Calls.{turningTests}
 use Rattle.shapes.specs.Listed.{listed}
 use Rattle.shapes.specs.Plan.{planTests, planPoints}
 use Rattle.shapes.specs.Shape.{shapeTests, shapePoints, outOfRange}
-use Rattle.shapes.proofs.Listed.{listed-points}
+use Rattle.shapes.proofs.Listed.{listed-points, listed-same}
 use Rattle.shapes.proofs.Written.{plan-points}
 use Rattle.planning.specs.Planning.{ShapeSet}
 use Rattle.cleaning.specs.Cleaning.{Cleaned, operationTests, part}
@@ -36,10 +36,11 @@ shown A out out′ r fit same w =
     let head : take (stated r .1) out′ ≡ listed A = ap₂ (λ s o. take (s .1) o) (w .answer) (w .words) ∙ take-append-seam (listed A) rest in
     record {
       stands = ≐-trans (subst (λ l. In (shapePoints l) ≐ In A) (sym head) (listed-points A fit)) same;
+      laid = head ∙ sym (ap (λ l. listed (shapePoints l)) head ∙ listed-same (shapePoints (listed A)) A (listed-points A fit));
       past = ap₂ (λ s o. drop (s .1) o) (w .answer) (w .words) ∙ drop-append-seam (listed A) rest ∙ sym (ap (λ s. drop (s .1) out) (w .answer));
     }
 
-moved-is : (ws : List ℕ) (d : Point) → In (movedPoints ws d) ≐ moved d (ShapeSet ws)
+pub moved-is : (ws : List ℕ) (d : Point) → In (movedPoints ws d) ≐ moved d (ShapeSet ws)
 moved-is ws d p = (
   λ h. let r = In-map (λ q. q +ᵖ d) (shapePoints ws) p .0 h in subst (In (shapePoints ws)) (sym (ap (λ q. q -ᵖ d) (r .2) ∙ +ᵖ-cancel (r .0) d)) (r .1),
   λ h. In-map (λ q. q +ᵖ d) (shapePoints ws) p .1 (p -ᵖ d, h, sym (subᵖ-cancel p d)),

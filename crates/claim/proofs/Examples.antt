@@ -9,12 +9,15 @@ use lib.IntN.{pos}
 use lib.ListN.{length, take, drop, getD, replicate}
 use lib.Seq.{getD-drop}
 use Rattle.plane.specs.Point.{_+ᵖ_, negᵖ, origin}
+use Rattle.plane.proofs.Algebra.{≐-trans, ≐-sym}
 use Rattle.words.specs.Ground.{stated, result, refusal}
 use Rattle.words.specs.declared.Answer.{Answer}
 use Rattle.masks.specs.Chain.{Chain, subset}
 use Rattle.masks.specs.Mask.{stage, maskCells}
 use Rattle.masks.proofs.Measured.{four}
-use Rattle.shapes.specs.Calls.{Moved, TurnedBack}
+use Rattle.shapes.specs.Calls.{Moved, movedPoints, TurnedBack}
+use Rattle.shapes.specs.Listed.{listed}
+use Rattle.shapes.proofs.Listed.{listed-same}
 use Rattle.shapes.specs.Shape.{shapePoints, shapeTests, outOfRange}
 use Rattle.planning.specs.Planning.{ShapeSet, Planned, PlanWritten}
 use Rattle.grids.specs.Frame.{frameTests, LoadCounted}
@@ -29,6 +32,7 @@ use Rattle.claim.specs.Demand3.{Demand3, Agrees, Decided, Served}
 use Rattle.claim.specs.Measured.{fourWords, threeWords}
 use Rattle.claim.specs.RoundTrip.{RoundTrip}
 use Rattle.claim.specs.Whole.{handedFor, Lent}
+use Rattle.claim.proofs.Demand2.{moved-is}
 use Rattle.claim.proofs.Measured.{accepts}
 
 -- the row of four cells has a chain of two members
@@ -75,6 +79,16 @@ unfolding shapeTests shapePoints outOfRange _+ᵖ_ negᵖ
 moved-past D r out′ p n =
     let past = D .moving (0x10000000 ∷ 0x20000005 ∷ []) (pos 2, pos 3) (replicate 18 7) r out′ p refl .past in
     sym (getD-drop 2 out′ 15 0) ∙ ap (λ l. getD l 15 0) (subst (λ k. drop k out′ ≡ drop k (replicate 18 7)) n past)
+
+-- and these two words are the list of the points moved: another anchor, or an empty row, would stand for the same points
+moved-laid : Demand2 → (r : Answer) (out′ : List ℕ) → Moved (0x10000000 ∷ 0x20000005 ∷ []) (pos 2, pos 3) (replicate 18 7) r out′ → stated r .1 ≡ 2
+    → take 2 out′ ≡ 0x10000000 ∷ 0x20030014 ∷ []
+unfolding shapeTests shapePoints outOfRange listed _+ᵖ_ negᵖ
+moved-laid D r out′ p n =
+    let ws : List ℕ = 0x10000000 ∷ 0x20000005 ∷ [] in
+    let s = D .moving ws (pos 2, pos 3) (replicate 18 7) r out′ p refl in
+    let same = ≐-trans (s .stands) (≐-sym (moved-is ws (pos 2, pos 3))) in
+    subst (λ k. take k out′ ≡ 0x10000000 ∷ 0x20030014 ∷ []) n (s .laid ∙ listed-same (shapePoints (take (stated r .1) out′)) (movedPoints ws (pos 2, pos 3)) same)
 
 -- one column of two rows, the second occupied, is so in the grid
 put-right : Demand2 → (r : Answer) (i′ : List ℕ) → FramePut 1 2 (0 ∷ 1 ∷ []) (replicate 273 7) r i′ → getD i′ 16 0 ≡ 1

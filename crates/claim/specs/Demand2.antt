@@ -16,7 +16,9 @@ use Rattle.words.specs.Word.{stageMask}
 use Rattle.words.specs.declared.Answer.{Answer}
 use Rattle.masks.specs.Chain.{sumOf}
 use Rattle.masks.specs.Mask.{maskPoints}
+use Rattle.shapes.specs.Listed.{listed}
 use Rattle.shapes.specs.Plan.{planPoints, planOffset, planMasks}
+use Rattle.shapes.specs.Shape.{shapePoints}
 use Rattle.shapes.specs.Calls.{Moved, movingTests, Joined, joiningTests, Summed, summingTests, TurnedBack, turningTests}
 use Rattle.planning.specs.Planning.{ShapeSet}
 use Rattle.grids.specs.Frame.{free, full, frame, occupied, gridSize, frameTests, LoadCounted}
@@ -26,9 +28,11 @@ use Rattle.cleaning.specs.Operation.{Says, Direct}
 use Rattle.cleaning.specs.Cleaning.{operationTests, part, Cleaned}
 use Rattle.cleaning.specs.declared.Operation.{Operation}
 
--- the words written to out, which then is out′, are as many as the number answered and stand for the set S; the words past them stay
+-- the words written to out, which then is out′, are as many as the number answered; they stand for the set S, and are laid out as the list of their points
+-- is, with the least anchor; the words past them stay
 pub record ListShows (S : PointSet) (out : List ℕ) (r : Answer) (out′ : List ℕ) : Type 0 where
   pub stands : ShapeSet (take (stated r .1) out′) ≐ S
+  pub laid : take (stated r .1) out′ ≡ listed (shapePoints (take (stated r .1) out′))
   pub past : drop (stated r .1) out′ ≡ drop (stated r .1) out
 
 -- 0 is answered, and the image i then is i′, which shows the set S on its grid: cell (x, y) is 1 if (x, y) lies in S, and 0 if not; its length and the
