@@ -21,19 +21,19 @@ use Rattle.grids.specs.Grid.{put, workTests}
 use Rattle.grids.proofs.Putting.{put-whole}
 use Rattle.frame_grounds.proofs.Sides.{sides}
 use Rattle.planes.specs.Planes.{Shows, packFits, FramePacked}
-use Rattle.planes.proofs.OnGrids.{low-bits, grid-pack, shown-cut}
+use Rattle.planes.proofs.OnGrids.{low-bits, plane-fits, grid-pack, shown-cut}
 use Rattle.cleaning.specs.declared.Operation.{Operation}
 use Rattle.cleaning.specs.Operation.{Direct, lastGrid, inTurn}
 use Rattle.cleaning.specs.Cleaning.{stagesRun, resultImage, part, operationTests, Cleaned}
 use Rattle.cleaning.proofs.Kept.{turn-length}
 use Rattle.cleaning.proofs.Plans.{accepted-direct}
 use Rattle.cleaning.proofs.Starts.{over-length, over-past, frame-in-grid, hand, hand-start}
-use Rattle.turn_steps.specs.Turns.{standingImage, Shown, Room, Past, Ended}
-use Rattle.turn_steps.specs.Cutting.{distance, CutAway}
-use Rattle.turn_steps.specs.Running.{Runnable}
+use Rattle.turn_steps.specs.Turns.{standingImage, Shown, Past, Ended}
+use Rattle.result_steps.specs.Cutting.{distance, Room, CutAway}
+use Rattle.result_steps.specs.Running.{Runnable}
 use Rattle.clean_calls.proofs.Accepted.{plan-length, place-small}
 use Rattle.turn_steps.proofs.Alternating.{either, kept-past, past-same, past-then, room-past, same-either, same-of}
-use Rattle.turn_steps.proofs.Reading.{cut-turn}
+use Rattle.result_steps.proofs.Reading.{cut-turn}
 
 module _ (plan : List ℕ) (W H : ℕ) (f i j : List ℕ) (z : firstOf (operationTests plan W H f i j) ≡ 0) where
   all-clear : Clear (operationTests plan W H f i j)
@@ -68,7 +68,9 @@ module _ (plan : List ℕ) (W H : ℕ) (f i j : List ℕ) (z : firstOf (operatio
 
   -- so the frame goes into the plane in the first image
   pub packs : T (packFits free W H (W + 15) (H + 15) (length f) (length i))
-  packs = let s = sides W H sides-pass in grid-pack W H (s .0) (s .1) W H (length f) (length i) (omega arith) (omega arith) cells-all (room .0)
+  packs =
+      let s = sides W H sides-pass in
+      grid-pack W H (s .0) (s .1) W H (length f) (length i) (omega arith) (omega arith) cells-all (omega (arith, room .0, plane-fits W H))
 
   pub has-room : Room W H i j
   has-room = record { sides = sides-pass; first = room .0; second = room .1 }

@@ -1,5 +1,5 @@
 // The four operations on a plan list, a frame and two work images: dilation, erosion, opening and closing. Each tries all grounds before it writes a byte,
-// packs the frame into a plane in the first image, and runs the stages and cuts the result by `turn_steps`.
+// packs the frame into a plane in the first image, and runs the stages and cuts the result by `result_steps`.
 use cleaning::Operation;
 use words::Answer;
 ghost use mathlib.Core.Path.{_≡_};
@@ -36,7 +36,7 @@ fn clean(
         return Answer::Refused(ground);
     }
     plane_pack_steps::pack(frame, first, w, h, w + 15, h + 15, 0);
-    let n = turn_steps::run(op, plan, w, h, first, second);
+    let n = result_steps::run(op, plan, w, h, first, second);
     let run = n as u32;
     Answer::Done(run)
 }

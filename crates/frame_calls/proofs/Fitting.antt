@@ -106,7 +106,8 @@ module _ (erode : Bool) (W H m : ℕ) {g i : List ℕ} (r : StageReady W H g i) 
   plane-small a b = plane-most 64 a b
 
   pub packs : T (packFits free C R C R (length g) (length i))
-  packs = grid-pack W H (size .0) (size .1) C R (length g) (length i) (omega arith) (omega arith) (r .read) (r .room)
+  packs = grid-pack W H (size .0) (size .1) C R (length g) (length i) (omega arith) (omega arith) (r .read)
+      (omega (arith, r .room, plane-fits W H))
 
   low : (k : ℕ) → k < C * R → getD g k 0 ≤ 1
   low k l = subst (λ n. n ≤ 1) (getD-take (gridSize W H) g k 0 l) (bytes-binary 0 zero-le (take (gridSize W H) g) (r .cells) k)

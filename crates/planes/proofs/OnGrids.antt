@@ -88,7 +88,8 @@ kept-drop W H {d} {d′} k =
 
 -- what works on the grid of a frame that ground 11 passes finds that sizes fit
 module _ (W H : ℕ) (lw : W ≤ 240) (lh : H ≤ 240) where
-  pub grid-pack : (w h n k : ℕ) → w ≤ W + 15 → h ≤ H + 15 → w * h ≤ n → gridSize W H ≤ k → T (packFits 0 w h (W + 15) (H + 15) n k)
+  pub grid-pack : (w h n k : ℕ) → w ≤ W + 15 → h ≤ H + 15 → w * h ≤ n → planeSize (W + 15) (H + 15) ≤ k
+      → T (packFits 0 w h (W + 15) (H + 15) n k)
   grid-pack w h n k hw hh hn hk =
       rw (
         le-leb 1 (H + 15) (omega arith),
@@ -97,7 +98,7 @@ module _ (W H : ℕ) (lw : W ≤ 240) (lh : H ≤ 240) where
         le-leb w (W + 15) hw,
         le-leb h (H + 15) hh,
         le-leb (w * h) n hn,
-        le-leb (planeSize (W + 15) (H + 15)) k (omega (arith, plane-fits W H)),
+        le-leb (planeSize (W + 15) (H + 15)) k hk,
       ) tt
 
   pub grid-stage : (n k : ℕ) → planeSize (W + 15) (H + 15) ≤ n → planeSize (W + 15) (H + 15) ≤ k → T (stageFits 0 (W + 15) (H + 15) n k)
@@ -110,7 +111,7 @@ module _ (W H : ℕ) (lw : W ≤ 240) (lh : H ≤ 240) where
         le-leb (planeSize (W + 15) (H + 15)) k hk,
       ) tt
 
-  pub grid-unpack : (w h a b n k : ℕ) → w ≤ W + 15 → h ≤ H + 15 → a ≤ 30 → b ≤ 30 → planeSize (W + 15) (H + 15) ≤ n → w * h ≤ k
+  pub grid-unpack : (w h a b n k : ℕ) → w ≤ W + 15 → h ≤ H + 15 → a ≤ 100 → b ≤ 100 → planeSize (W + 15) (H + 15) ≤ n → w * h ≤ k
       → T (unpackFits w h (W + 15) (H + 15) a b n k)
   grid-unpack w h a b n k hw hh ha hb hn hk =
       rw (

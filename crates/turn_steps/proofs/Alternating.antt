@@ -11,16 +11,15 @@ use lib.ListN.{length, getD, drop, length-drop, length-map, drop-of-length-le}
 use lib.Seq.{drop-cons}
 use Rattle.words.specs.Word.{stageMask}
 use Rattle.shapes.specs.Plan.{planMasks}
-use Rattle.grids.specs.Frame.{free, gridSize}
+use Rattle.grids.specs.Frame.{free}
 use Rattle.grids.specs.Grid.{grid, once}
-use Rattle.planes.specs.Planes.{PlaneOnly, Shows, stageFits, PlaneTaken, unpackFits}
-use Rattle.planes.proofs.OnGrids.{plane-fits, kept-drop, after-once, grid-stage, grid-unpack}
+use Rattle.planes.specs.Planes.{planeSize, PlaneOnly, Shows, stageFits, PlaneTaken}
+use Rattle.planes.proofs.OnGrids.{kept-drop, after-once, grid-stage}
 use Rattle.frame_grounds.proofs.Sides.{sides}
 use Rattle.plane.specs.Point.{Point}
 use Rattle.cleaning.specs.Operation.{through}
 use Rattle.cleaning.specs.Cleaning.{resultImage}
-use Rattle.cleaning.proofs.Starts.{frame-in-grid}
-use Rattle.turn_steps.specs.Turns.{standingImage, Shown, Past, Room, Turned, Passed}
+use Rattle.turn_steps.specs.Turns.{standingImage, Shown, Past, Roomed, PlaneRoom, Turned, Passed}
 
 -- ---- planes in images
 
@@ -34,17 +33,10 @@ past-same = record { size = refl; rest = refl }
 pub past-then : {W H : ℕ} {d d′ d″ : List ℕ} → Past W H d d′ → Past W H d′ d″ → Past W H d d″
 past-then p q = record { size = q .size ∙ p .size; rest = q .rest ∙ p .rest }
 
--- images that have room for the grid have it for a stage and for the cut
-module _ {W H : ℕ} {i j : List ℕ} (r : Room W H i j) (p d : List ℕ) (hp : gridSize W H ≤ length p) (hd : gridSize W H ≤ length d) where
-  pub room-stage : T (stageFits free (W + 15) (H + 15) (length p) (length d))
-  room-stage =
-      let s = sides W H (r .sides) in grid-stage W H (s .0) (s .1) (length p) (length d) (omega (arith, plane-fits W H)) (omega (arith, plane-fits W H))
-
-  pub room-cut : (a b : ℕ) → a ≤ 30 → b ≤ 30 → T (unpackFits W H (W + 15) (H + 15) a b (length p) (length d))
-  room-cut a b ha hb =
-      let s = sides W H (r .sides) in
-      grid-unpack W H (s .0) (s .1) W H a b (length p) (length d) (omega arith) (omega arith) ha hb (omega (arith, plane-fits W H))
-      (omega (arith, frame-in-grid W H))
+-- images that have room for the plane have it for a stage
+pub room-stage : {W H : ℕ} {i j : List ℕ} → PlaneRoom W H i j → (p d : List ℕ) → planeSize (W + 15) (H + 15) ≤ length p → planeSize (W + 15) (H + 15) ≤ length d
+    → T (stageFits free (W + 15) (H + 15) (length p) (length d))
+room-stage {W} {H} r p d hp hd = let s = sides W H (r .sides) in grid-stage W H (s .0) (s .1) (length p) (length d) hp hd
 
 -- ---- one turn
 
@@ -106,7 +98,7 @@ pub record Midway (erode : Bool) (plan : List ℕ) (W H t : ℕ) (i j : List ℕ
   pub count : n + 2 ≡ t + k
 
 -- images that were changed as images may be have room where they had it
-pub room-past : {W H : ℕ} {i j i′ j′ : List ℕ} → Room W H i j → Past W H i i′ → Past W H j j′ → Room W H i′ j′
+pub room-past : {n W H : ℕ} {i j i′ j′ : List ℕ} → Roomed n W H i j → Past W H i i′ → Past W H j j′ → Roomed n W H i′ j′
 room-past r p q = record { sides = r .sides; first = omega (arith, r .first, p .size); second = omega (arith, r .second, q .size) }
 
 module _ {erode : Bool} {plan : List ℕ} {W H t : ℕ} {i j : List ℕ} where

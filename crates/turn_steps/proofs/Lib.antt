@@ -1,3 +1,3 @@
 pub mod Alternating
 pub mod Ending
-pub mod Reading
+pub mod Told

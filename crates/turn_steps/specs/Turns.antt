@@ -9,7 +9,7 @@ use lib.ListN.{length, drop}
 use Rattle.shapes.specs.Plan.{planMasks}
 use Rattle.grids.specs.Frame.{free, badSize, gridSize}
 use Rattle.grids.specs.Grid.{grid, once}
-use Rattle.planes.specs.Planes.{Shows, PlaneTaken}
+use Rattle.planes.specs.Planes.{planeSize, Shows, PlaneTaken}
 use Rattle.cleaning.specs.declared.Operation.{Operation}
 use Rattle.cleaning.specs.Operation.{through, lastGrid}
 use Rattle.cleaning.specs.Cleaning.{stagesRun, resultImage}
@@ -26,11 +26,15 @@ Shown W H t g i j = Shows (W + 15) (H + 15) (grid free W H g) (standingImage t i
 abbrev pub Worded : List ℕ → Type 0
 Worded plan = (2 ≤ length plan) × (length plan ≤ 32)
 
--- sides that pass, and two images that are long enough
-pub record Room (W H : ℕ) (i j : List ℕ) : Type 0 where
+-- sides that pass, and two images of n bytes or more
+pub record Roomed (n W H : ℕ) (i j : List ℕ) : Type 0 where
   pub sides : badSize W H ≡ false
-  pub first : gridSize W H ≤ length i
-  pub second : gridSize W H ≤ length j
+  pub first : n ≤ length i
+  pub second : n ≤ length j
+
+-- images that are long enough for the plane that shows the grid
+abbrev pub PlaneRoom : ℕ → ℕ → List ℕ → List ℕ → Type 0
+PlaneRoom W H i j = Roomed (planeSize (W + 15) (H + 15)) W H i j
 
 -- an image as long as it was, and the same past its grid
 pub record Past (W H : ℕ) (d d′ : List ℕ) : Type 0 where
@@ -55,3 +59,13 @@ pub record Ended (op : Operation) (plan : List ℕ) (W H : ℕ) (i j : List ℕ)
   pub first : Past W H i i′
   pub second : Past W H j j′
   pub shown : (g : List ℕ) → Shown W H 0 g i j → Shown W H r (lastGrid op W H (planMasks plan) g) i′ j′
+
+-- what stages can be run on: as many words as a plan has, and images with room for the plane
+pub record Turnable (plan : List ℕ) (W H : ℕ) (i j : List ℕ) : Type 0 where
+  pub words : Worded plan
+  pub room : PlaneRoom W H i j
+
+-- the stages were run; what they cannot be run on stays as it is
+pub record StagesTurned (op : Operation) (plan : List ℕ) (W H : ℕ) (i j : List ℕ) (r : ℕ) (i′ j′ : List ℕ) : Type 0 where
+  pub through : Turnable plan W H i j → Ended op plan W H i j r i′ j′
+  pub unchanged : (Turnable plan W H i j → ⊥) → (r ≡ 0) × (i′ ≡ i) × (j′ ≡ j)

@@ -1,17 +1,15 @@
-// An operation's stages and its result, on a frame that is packed into a plane in the first of two work images: the stages are run one after the other with the
-// images taking turns (`turns`), and the result is cut from the last plane into the other image (`results`).
-mod results;
+// The stages of an operation, run one after the other on a frame that is packed into a plane in the first of two work images, which take turns (`turns`).
 mod turns;
 
 use cleaning::Operation;
 ghost use mathlib.Core.Path.{_≡_};
 ghost use mathlib.Core.Bool.{true, false};
-ghost use Rattle.turn_steps.specs.Running.{Runnable, TurnsRun};
+ghost use Rattle.turn_steps.specs.Turns.{Turnable, StagesTurned};
 
-// Whether the plan list and the images can be run: 2 to 32 words, a place within its range, sides that pass, and room for the grid in both images.
-fn runnable(plan: &[u32], w: usize, h: usize, first: &[u8], second: &[u8]) -> bool
-    ensures yes { λ r. ⌜ (r ≡ true → Runnable (now (plan .entry)) w h (now (first .entry)) (now (second .entry))) ⌝ }
-    ensures no { λ r. ⌜ (r ≡ false → Runnable (now (plan .entry)) w h (now (first .entry)) (now (second .entry)) → ⊥) ⌝ }
+// Whether the plan list has as many words as a plan has, the sides pass, and both images have room for the plane of the frame's grid.
+fn turnable(plan: &[u32], w: usize, h: usize, first: &[u8], second: &[u8]) -> bool
+    ensures yes { λ r. ⌜ (r ≡ true → Turnable (now (plan .entry)) w h (now (first .entry)) (now (second .entry))) ⌝ }
+    ensures no { λ r. ⌜ (r ≡ false → Turnable (now (plan .entry)) w h (now (first .entry)) (now (second .entry)) → ⊥) ⌝ }
 {
     if plan.len() < 2 {
         return false;
@@ -19,17 +17,12 @@ fn runnable(plan: &[u32], w: usize, h: usize, first: &[u8], second: &[u8]) -> bo
     if 32 < plan.len() {
         return false;
     }
-    let place = plan[1];
-    if 30 < place % 256 {
-        return false;
-    }
-    if 30 < place / 256 % 256 {
-        return false;
-    }
     if frame_grounds::bad_size(w, h) {
         return false;
     }
-    let size = (w + 15) * (h + 15);
+    let columns = w + 15;
+    let rows = h + 15;
+    let size = ((rows + 7) / 8 + 2) * (columns + 2) + 2;
     if first.len() < size {
         return false;
     }
@@ -39,9 +32,9 @@ fn runnable(plan: &[u32], w: usize, h: usize, first: &[u8], second: &[u8]) -> bo
     true
 }
 
-// The stages of an operation, on the plane in the first image, and the cut of the result. Returns the number of stages run; 0, with the images as they
-// were, where the plan list or the images cannot be run.
-pub fn run(
+// The stages of an operation, on the plane in the first image, and no cut. Returns the number of stages run; 0, with the images as they were, where there are
+// not as many words as a plan has, or no room for the planes.
+pub fn stages(
     op: Operation,
     plan: &[u32],
     w: usize,
@@ -49,12 +42,10 @@ pub fn run(
     first: &mut [u8],
     second: &mut [u8],
 ) -> usize
-    ensures { λ r. ⌜ TurnsRun op (now (plan .entry)) w h (now (first .entry)) (now (second .entry)) r (now (first .exit)) (now (second .exit)) ⌝ }
+    ensures { λ r. ⌜ StagesTurned op (now (plan .entry)) w h (now (first .entry)) (now (second .entry)) r (now (first .exit)) (now (second .exit)) ⌝ }
 {
-    if !runnable(plan, w, h, first, second) {
+    if !turnable(plan, w, h, first, second) {
         return 0;
     }
-    let n = turns::stages(op, plan, w, h, first, second);
-    results::cut(op, plan[1], n, w, h, first, second);
-    n
+    turns::stages(op, plan, w, h, first, second)
 }

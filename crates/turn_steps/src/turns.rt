@@ -1,11 +1,11 @@
 // The work images take turns: each single stage reads the image in which the plane stands and writes the other.
 use cleaning::Operation;
 ghost use Prim.Native.Nat.{_≤_};
-ghost use Rattle.turn_steps.specs.Turns.{Worded, Room, Turned, Passed, Ended};
+ghost use Rattle.turn_steps.specs.Turns.{Worded, PlaneRoom, Turned, Passed, Ended};
 
 // One single stage, after t others.
 fn turn(mask: u16, erode: bool, t: usize, w: usize, h: usize, first: &mut [u8], second: &mut [u8])
-    requires { ⌜ Room w h (now first) (now second) ⌝ }
+    requires { ⌜ PlaneRoom w h (now first) (now second) ⌝ }
     ensures { λ _. ⌜ Turned erode mask w h t (now (first .entry)) (now (second .entry)) (now (first .exit)) (now (second .exit)) ⌝ }
 {
     if t % 2 == 0 {
@@ -25,7 +25,7 @@ fn pass(
     first: &mut [u8],
     second: &mut [u8],
 ) -> usize
-    requires { ⌜ Worded (now plan) × Room w h (now first) (now second) × (t ≤ 30) ⌝ }
+    requires { ⌜ Worded (now plan) × PlaneRoom w h (now first) (now second) × (t ≤ 30) ⌝ }
     ensures { λ r. ⌜ Passed erode (now (plan .entry)) w h t (now (first .entry)) (now (second .entry)) r (now (first .exit)) (now (second .exit)) ⌝ }
 {
     let mut n = t;
@@ -47,7 +47,7 @@ pub(crate) fn stages(
     first: &mut [u8],
     second: &mut [u8],
 ) -> usize
-    requires { ⌜ Worded (now plan) × Room w h (now first) (now second) ⌝ }
+    requires { ⌜ Worded (now plan) × PlaneRoom w h (now first) (now second) ⌝ }
     ensures { λ r. ⌜ Ended op (now (plan .entry)) w h (now (first .entry)) (now (second .entry)) r (now (first .exit)) (now (second .exit)) ⌝ }
 {
     match op {

@@ -9,7 +9,7 @@ use Rattle.cleaning.specs.Cleaning.{operationTests}
 use Rattle.frame_grounds.proofs.Sides.{sides}
 use Rattle.grids.specs.Frame.{free}
 use Rattle.planes.specs.Planes.{packFits}
-use Rattle.turn_steps.specs.Running.{Runnable}
+use Rattle.result_steps.specs.Running.{Runnable}
 use Rattle.clean_calls.proofs.Accepted.{few-stages}
 use Rattle.clean_calls.proofs.Working.{plan-accepted, sides-pass, packs, runs, ran}
 use native.Mathlib.Omega.{arith}

@@ -1,11 +1,11 @@
 -- The cut goes from one image into the other, at the distances that the place gives.
 use Rattle.words.specs.Word.{placeX, placeY}
-use Rattle.turn_steps.proofs.Alternating.{room-cut}
-use Rattle.turn_steps.proofs.Reading.{ahead-small, away-first, away-second}
+use Rattle.result_steps.proofs.Rooms.{room-cut}
+use Rattle.result_steps.proofs.Reading.{ahead-small, away-first, away-second}
 use native.Mathlib.Omega.{arith}
 use borrow.Author.Needs.{needs}
-use Rattle.turn_steps.proofs.results.cut.Statement.{statement}
-use Rattle.turn_steps.proofs.results.cut.Tie as tie
+use Rattle.result_steps.proofs.results.cut.Statement.{statement}
+use Rattle.result_steps.proofs.results.cut.Tie as tie
 
 ahead-requires : tie.Need-ahead-requires
 ahead-requires c κs = search needs

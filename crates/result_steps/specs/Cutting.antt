@@ -4,14 +4,14 @@ use mathlib.Core.Path.{_≡_}
 use mathlib.Core.List.{List}
 use Prim.Native.Nat.{ℕ, _+_, _-_, _*_}
 use Rattle.words.specs.Word.{placeX, placeY}
-use Rattle.grids.specs.Frame.{free}
+use Rattle.grids.specs.Frame.{free, gridSize}
 use Rattle.ranges.specs.Ranges.{overFront}
 use Rattle.cuts.specs.Cuts.{cutOut}
 use Rattle.planes.specs.Planes.{planeCells}
 use Rattle.cleaning.specs.declared.Operation.{Operation}
 use Rattle.cleaning.specs.declared.Operation.the-variants.{Dilation, Erosion, Opening, Closing}
 use Rattle.cleaning.specs.Cleaning.{resultImage}
-use Rattle.turn_steps.specs.Turns.{standingImage}
+use Rattle.turn_steps.specs.Turns.{standingImage, Roomed}
 
 -- 15 more than what is added to x, or to y, where the place's field for it is f, at most 30
 abbrev pub distance : Operation → ℕ → ℕ
@@ -23,6 +23,10 @@ distance Closing f = 15
 -- W columns and H rows cut out of the cells of the plane p, at the distances that the place's fields give
 abbrev pub awayCells : Operation → ℕ → ℕ → ℕ → List ℕ → List ℕ
 awayCells op place W H p = cutOut free W H (W + 15) (H + 15) (distance op (placeX place)) (distance op (placeY place)) (planeCells (W + 15) (H + 15) p)
+
+-- images that are long enough for the grid
+abbrev pub Room : ℕ → ℕ → List ℕ → List ℕ → Type 0
+Room W H i j = Roomed (gridSize W H) W H i j
 
 -- after t stages the result is cut from the image in which the last plane stands, which is unchanged, into the other
 pub record CutAway (op : Operation) (place W H t : ℕ) (i j i′ j′ : List ℕ) : Type 0 where

@@ -3,8 +3,7 @@ use cleaning::Operation;
 ghost use mathlib.Core.Path.{_≡_};
 ghost use Prim.Native.Nat.{_≤_};
 ghost use Rattle.words.specs.Word.{placeX, placeY};
-ghost use Rattle.turn_steps.specs.Cutting.{distance, CutAway};
-ghost use Rattle.turn_steps.specs.Turns.{Room};
+ghost use Rattle.result_steps.specs.Cutting.{distance, Room, CutAway};
 
 // 15 more than what is added to a coordinate of the result to find the cell that is read, from the place's field for that coordinate.
 fn ahead(op: Operation, field: u32) -> usize

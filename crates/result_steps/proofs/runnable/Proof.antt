@@ -1,21 +1,15 @@
 -- One test after the other: where one fails, nothing can be run; where none does, all that a run asks for is there.
 use native.Mathlib.Omega.{arith}
 use borrow.Author.Needs.{needs}
-use mathlib.Core.Path.{_≡_, refl, sym, _∙_, subst}
-use mathlib.Core.Bool.{true, false}
+use mathlib.Core.Path.{_≡_, sym, _∙_, subst}
+use mathlib.Core.Bool.{false}
 use Prim.Native.Nat.{_+_, _*_, _≤_}
 use lib.Dec.{T}
 use Rattle.frame_grounds.proofs.Sides.{sides, small-grid}
 use Rattle.grids.specs.Frame.{badSize}
-use Rattle.turn_steps.proofs.runnable.Statement.{statement}
-use Rattle.turn_steps.proofs.runnable.Tie as tie
-
--- the two halves of the promise, where a test fails and where none does
-fails : {A : Type 0} → (A → ⊥) → (false ≡ true → A) × (false ≡ false → A → ⊥)
-fails n = (λ e. absurd (subst T (sym e) tt), λ _. n)
-
-holds : {A : Type 0} → A → (true ≡ true → A) × (true ≡ false → A → ⊥)
-holds a = (λ _. a, λ e _. subst T e tt)
+use Rattle.turn_steps.proofs.Told.{fails, holds}
+use Rattle.result_steps.proofs.runnable.Statement.{statement}
+use Rattle.result_steps.proofs.runnable.Tie as tie
 
 abbrev start : tie.Else5 → tie.Start
 start c = c .before .before .before .before .before .before .before .before .before .before

@@ -21,7 +21,7 @@ use Rattle.planes.specs.Planes.{planeCells}
 use Rattle.cleaning.specs.declared.Operation.{Operation}
 use Rattle.cleaning.specs.declared.Operation.the-variants.{Dilation, Erosion, Opening, Closing}
 use Rattle.cleaning.specs.Operation.{lastGrid, readAt, inTurn}
-use Rattle.turn_steps.specs.Cutting.{distance, CutAway}
+use Rattle.result_steps.specs.Cutting.{distance, CutAway}
 
 -- as far the other way
 back : (f : ℕ) → f ≤ 30 → negℤ (pos f -ℤ pos 15) ≡ pos (30 - f) -ℤ pos 15

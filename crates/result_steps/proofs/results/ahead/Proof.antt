@@ -1,9 +1,9 @@
 -- Each arm of the match is one operation.
 use borrow.Author.Needs.{needs}
 use mathlib.Core.Path.{sym, ap}
-use Rattle.turn_steps.specs.Cutting.{distance}
-use Rattle.turn_steps.proofs.results.ahead.Statement.{statement}
-use Rattle.turn_steps.proofs.results.ahead.Tie as tie
+use Rattle.result_steps.specs.Cutting.{distance}
+use Rattle.result_steps.proofs.results.ahead.Statement.{statement}
+use Rattle.result_steps.proofs.results.ahead.Tie as tie
 
 sub-back : tie.Need-sub-back
 sub-back c = search needs

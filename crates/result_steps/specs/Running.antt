@@ -6,8 +6,8 @@ use Prim.Native.Nat.{ℕ, _≤_}
 use lib.ListN.{length, getD}
 use Rattle.words.specs.Word.{placeX, placeY}
 use Rattle.cleaning.specs.declared.Operation.{Operation}
-use Rattle.turn_steps.specs.Turns.{Worded, Room, Ended}
-use Rattle.turn_steps.specs.Cutting.{CutAway}
+use Rattle.turn_steps.specs.Turns.{Worded, Ended}
+use Rattle.result_steps.specs.Cutting.{Room, CutAway}
 
 -- what can be run: as many words as a plan has, a place within its range, and images with room
 pub record Runnable (plan : List ℕ) (W H : ℕ) (i j : List ℕ) : Type 0 where
