@@ -31,7 +31,7 @@ use Rattle.cleaning.proofs.Starts.{over-length, over-past, frame-in-grid, hand,
 use Rattle.turn_steps.specs.Turns.{standingImage, Shown, Past, Ended}
 use Rattle.result_steps.specs.Cutting.{distance, Room, CutAway}
 use Rattle.result_steps.specs.Running.{Runnable}
-use Rattle.clean_calls.proofs.Accepted.{plan-length, place-small}
+use Rattle.plan_grounds.proofs.Accepted.{plan-length, place-small}
 use Rattle.turn_steps.proofs.Alternating.{either, kept-past, past-same, past-then, room-past, same-either, same-of}
 use Rattle.result_steps.proofs.Reading.{cut-turn}
 

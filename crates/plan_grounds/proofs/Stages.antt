@@ -2,11 +2,9 @@
 use mathlib.Core.Path.{_≡_, refl, sym, _∙_, ap, ap₂, subst}
 use mathlib.Core.Bool.{Bool, true, false, not, _||_}
 use mathlib.Core.List.{List, [], _∷_, map}
-use Prim.Native.Nat.{ℕ, _+_, _≤_, _<_}
-use native.Mathlib.Numerals.{add-one}
+use Prim.Native.Nat.{ℕ, _+_}
 use lib.Dec.{T, ltb}
-use lib.ListN.{length, getD, drop, drop-of-length-le}
-use lib.Seq.{drop-cons}
+use lib.ListN.{getD, drop}
 use Rattle.plane.specs.Extent.{x-of, y-of}
 use Rattle.plane.specs.Lists.{all, any, anyNext, In}
 use Rattle.plane.proofs.Extents.{x-adds, y-adds}
@@ -16,13 +14,13 @@ use Rattle.words.specs.Word.{placeX, placeY, stageMask}
 use Rattle.masks.specs.Chain.{PlanOf}
 use Rattle.masks.specs.Mask.{stage}
 use Rattle.masks.proofs.Bounds.{along, total, plan-extent, forced}
-use Rattle.stage_steps.specs.Reach.{reach}
 use Rattle.stage_steps.proofs.Stages.{reach-is}
 use Rattle.shapes.specs.Plan.{planMasks, planOffset, planPoints, wrongMasks}
 use Rattle.shapes.specs.Shape.{outOfRange}
 use Rattle.shapes.proofs.Range.{range-is, biased-offside}
 use Rattle.shapes.proofs.Written.{plan-itself}
-use Rattle.plan_grounds.specs.Leaves.{falls, extentOf}
+use Rattle.plan_steps.specs.Extent.{extentOf}
+use Rattle.plan_grounds.specs.Leaves.{falls}
 use Rattle.plane.specs.Point.{Point}
 
 -- ---- ground 7
@@ -33,17 +31,8 @@ masks-tried ws = ap₂ (λ a b. a || b) (not-all-map stageMask stage (drop 2 ws)
 
 -- ---- the sums of the extents
 
--- a loop over the words: one more, and none left
-pub extent-one : (down : Bool) (l : List ℕ) (i : ℕ) → i < length l
-    → extentOf down (drop i l) ≡ reach down (stageMask (getD l i 0)) + extentOf down (drop (i + 1) l)
-extent-one down l i h =
-    ap (extentOf down) (drop-cons l i 0 h) ∙ ap (λ n. reach down (stageMask (getD l i 0)) + extentOf down (drop n l)) (sym (add-one i))
-
-pub extent-none : (down : Bool) (l : List ℕ) (i : ℕ) → length l ≤ i → extentOf down (drop i l) ≡ 0
-extent-none down l i h = ap (extentOf down) (drop-of-length-le l h)
-
 -- of stages, they are the sums of the masks' extents
-extent-is : (ws : List ℕ) → T (all stage (map stageMask ws))
+pub extent-is : (ws : List ℕ) → T (all stage (map stageMask ws))
     → (extentOf false ws ≡ total (along x-of) (map stageMask ws)) × (extentOf true ws ≡ total (along y-of) (map stageMask ws))
 extent-is [] t = (refl, refl)
 extent-is (w ∷ ws) t =

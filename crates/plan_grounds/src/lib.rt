@@ -12,7 +12,7 @@ ghost use Rattle.words.specs.Word.{stageMask};
 ghost use Rattle.masks.specs.Mask.{stage};
 ghost use Rattle.shapes.specs.Shape.{outOfRange};
 ghost use Rattle.shapes.specs.Plan.{planTests, wrongPlanKinds, wrongPlanBits, wrongCount, wrongPlace, wrongMasks, planMasks, planPoints};
-ghost use Rattle.plan_grounds.specs.Leaves.{falls, extentOf};
+ghost use Rattle.plan_grounds.specs.Leaves.{falls};
 
 // Ground 2: whether the first word is no head, the second no place, or some other no stage.
 fn wrong_kinds(ws: &[u32]) -> bool
@@ -100,27 +100,13 @@ fn wrong_masks(ws: &[u32]) -> bool
     falling(ws)
 }
 
-// How far the sum of the stages goes from 0: the sum of their reaches.
-fn extent(ws: &[u32], down: bool) -> u32
-    requires { ⌜ length (now ws) ≤ 32 ⌝ }
-    ensures { λ r. ⌜ r ≡ extentOf down (drop 2 (now (ws .entry))) ⌝ }
-{
-    let mut sum: u32 = 0;
-    let mut i: usize = 2;
-    while i < ws.len() {
-        sum += stage_steps::reach(ws[i] % 512, down);
-        i += 1;
-    }
-    sum
-}
-
 // Ground 8, from the extents of the sum and the place; the masks are stages, so each reaches down to 0.
 fn out_of_range(ws: &[u32]) -> bool
     requires { ⌜ (2 ≤ length (now ws)) × (length (now ws) ≤ 32) × (wrongMasks (planMasks (now ws)) ≡ false) ⌝ }
     ensures { λ r. ⌜ r ≡ outOfRange (planPoints (now (ws .entry))) ⌝ }
 {
-    let w = extent(ws, false);
-    let h = extent(ws, true);
+    let w = plan_steps::extent(ws, false);
+    let h = plan_steps::extent(ws, true);
     if w > 15 {
         return true;
     }

@@ -6,7 +6,7 @@ use Rattle.words.proofs.Refusals.{rest-append}
 use Rattle.words.proofs.Tested.{no-refusal, refused-more}
 use Rattle.shapes.specs.Plan.{planTests}
 use Rattle.grids.specs.Grid.{workTests}
-use Rattle.clean_calls.proofs.Accepted.{plan-clear}
+use Rattle.plan_grounds.proofs.Accepted.{plan-clear}
 use Rattle.clean_calls.proofs.refused.Statement.{statement}
 use Rattle.clean_calls.proofs.refused.Tie as tie
 

@@ -8,7 +8,7 @@ use borrow.Author.Tests.{lt-ltb, le-ltb}
 use lib.Dec.{ltb}
 use lib.ListN.{getD, drop}
 use Rattle.words.specs.Word.{placeX, placeY}
-use Rattle.plan_grounds.specs.Leaves.{extentOf}
+use Rattle.plan_steps.specs.Extent.{extentOf}
 use Rattle.plan_grounds.proofs.Stages.{range-tried}
 use Rattle.plan_grounds.proofs.out_of_range.Statement.{statement}
 use Rattle.plan_grounds.proofs.out_of_range.Tie as tie
@@ -22,15 +22,15 @@ extent-requires-2 c κs = search needs
 returns : tie.Need-returns
 returns c =
     let ws = c .before .before .before .before .args .ws .now in
-    let e = c .before .before .extent .ensures in
-    let f = c .before .extent2 .ensures in
+    let e = c .before .before .extent .ensures .0 (c .before .before .before .before .pre .1) in
+    let f = c .before .extent2 .ensures .0 (c .before .before .before .before .pre .1) in
     sym (range-tried ws (c .before .before .before .before .pre .2) ∙ simp (lt-ltb 15 (extentOf false (drop 2 ws)) (omega arith)))
 
 returns-2 : tie.Need-returns-2
 returns-2 c =
     let ws = c .before .before .before .before .before .args .ws .now in
-    let e = c .before .before .before .extent .ensures in
-    let f = c .before .before .extent2 .ensures in
+    let e = c .before .before .before .extent .ensures .0 (c .before .before .before .before .before .pre .1) in
+    let f = c .before .before .extent2 .ensures .0 (c .before .before .before .before .before .pre .1) in
     let w = le-ltb 15 (extentOf false (drop 2 ws)) (omega arith) in
     sym (range-tried ws (c .before .before .before .before .before .pre .2) ∙ simp (w, lt-ltb 15 (extentOf true (drop 2 ws)) (omega arith)))
 
@@ -43,8 +43,8 @@ add-if3 c = search needs
 returns-3 : tie.Need-returns-3
 returns-3 c =
     let ws = c .before .before .before .before .before .before .before .args .ws .now in
-    let e = c .before .before .before .before .before .extent .ensures in
-    let f = c .before .before .before .before .extent2 .ensures in
+    let e = c .before .before .before .before .before .extent .ensures .0 (c .before .before .before .before .before .before .before .pre .1) in
+    let f = c .before .before .before .before .extent2 .ensures .0 (c .before .before .before .before .before .before .before .pre .1) in
     let w = le-ltb 15 (extentOf false (drop 2 ws)) (omega arith) in
     let h = le-ltb 15 (extentOf true (drop 2 ws)) (omega arith) in
     let x = lt-ltb 30 (placeX (getD ws 1 0) + extentOf false (drop 2 ws)) (omega arith) in
@@ -59,8 +59,8 @@ add-result c = search needs
 returns-4 : tie.Need-returns-4
 returns-4 c =
     let ws = c .before .before .before .before .before .before .before .before .args .ws .now in
-    let e = c .before .before .before .before .before .before .extent .ensures in
-    let f = c .before .before .before .before .before .extent2 .ensures in
+    let e = c .before .before .before .before .before .before .extent .ensures .0 (c .before .before .before .before .before .before .before .before .pre .1) in
+    let f = c .before .before .before .before .before .extent2 .ensures .0 (c .before .before .before .before .before .before .before .before .pre .1) in
     let w = le-ltb 15 (extentOf false (drop 2 ws)) (omega arith) in
     let h = le-ltb 15 (extentOf true (drop 2 ws)) (omega arith) in
     let x = le-ltb 30 (placeX (getD ws 1 0) + extentOf false (drop 2 ws)) (omega arith) in

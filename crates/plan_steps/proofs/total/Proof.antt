@@ -5,11 +5,11 @@ use mathlib.Core.Path.{_≡_}
 use Prim.Native.Nat.{_+_, _*_, _-_, _≤_}
 use lib.ListN.{length, getD, drop}
 use Rattle.words.specs.Word.{stageMask}
-use Rattle.plan_grounds.specs.Leaves.{extentOf}
+use Rattle.plan_steps.specs.Extent.{extentOf}
 use Rattle.stage_steps.proofs.Stages.{reach-small}
-use Rattle.plan_grounds.proofs.Stages.{extent-one, extent-none}
-use Rattle.plan_grounds.proofs.extent.Statement.{statement}
-use Rattle.plan_grounds.proofs.extent.Tie as tie
+use Rattle.plan_steps.proofs.Words.{extent-one, extent-none}
+use Rattle.plan_steps.proofs.total.Statement.{statement}
+use Rattle.plan_steps.proofs.total.Tie as tie
 
 abbrev Inv-loop : tie.InvT-loop
 Inv-loop ws down sum₀ i₀ sum i = (2 ≤ i) × (sum ≤ 2 * i) × (sum + extentOf down (drop i ws) ≡ extentOf down (drop 2 ws))
@@ -61,8 +61,8 @@ returns c =
     let z = extent-none (st .down) (st .ws .now) (h .i) (c .loop-test .left) in
     omega arith
 
-pub extent-spec : {M : Type 1} → statement M
-extent-spec =
+pub total-spec : {M : Type 1} → statement M
+total-spec =
     tie.close
     (tie.spec
     Inv-loop
