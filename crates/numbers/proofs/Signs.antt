@@ -10,27 +10,9 @@ use mir.ValLaws.{toZ-ofZ, toZ-pos}
 use Rattle.words.specs.declared.Answer.{Answer}
 use Rattle.words.specs.declared.Answer.the-variants.{Done, Refused}
 use Rattle.words.specs.declared.Ground.{Ground}
-use Rattle.words.specs.declared.Ground.the-variants.{ListLength, WordKind, ExtraBit, RowOrder, StageCount, PlaceField, StageMask, OutOfRange}
-use Rattle.words.specs.declared.Ground.the-variants.{OutputLength, NoChain, FrameSize, FrameLength, CellValue, ImageLength}
 use Rattle.words.specs.Ground.{numberOf, stated}
 use Rattle.numbers.specs.Numbers.{signedOf}
-use Rattle.words.proofs.Refusals.{stated-once}
-
-number-small : (g : Ground) → numberOf g ≤ 14
-number-small ListLength = omega arith
-number-small WordKind = omega arith
-number-small ExtraBit = omega arith
-number-small RowOrder = omega arith
-number-small StageCount = omega arith
-number-small PlaceField = omega arith
-number-small StageMask = omega arith
-number-small OutOfRange = omega arith
-number-small OutputLength = omega arith
-number-small NoChain = omega arith
-number-small FrameSize = omega arith
-number-small FrameLength = omega arith
-number-small CellValue = omega arith
-number-small ImageLength = omega arith
+use Rattle.words.proofs.Refusals.{stated-once, ground-small}
 
 mag-negated : (n : ℕ) → mag (negℤ (pos n)) ≤ n
 mag-negated zero = omega arith
@@ -38,10 +20,10 @@ mag-negated (suc n) = omega arith
 
 module _ (g : Ground) (n : ℕ) (e : n ≡ numberOf g) where
   taken : pos 0 -ℤ toZ w64 n ≡ negℤ (pos n)
-  taken = ap (λ z. pos 0 -ℤ z) (toZ-pos w64 n (let l = number-small g in omega arith)) ∙ +ℤ-idl (negℤ (pos n))
+  taken = ap (λ z. pos 0 -ℤ z) (toZ-pos w64 n (let l = ground-small g in omega arith)) ∙ +ℤ-idl (negℤ (pos n))
 
   pub negated-fits : SFits w64 (pos 0 -ℤ toZ w64 n)
-  negated-fits = subst (SFits w64) (sym taken) (record { sfits = (let l = number-small g in let m = mag-negated n in omega arith) })
+  negated-fits = subst (SFits w64) (sym taken) (record { sfits = (let l = ground-small g in let m = mag-negated n in omega arith) })
 
   pub negated-is : toZ w64 (ofZ w64 (pos 0 -ℤ toZ w64 n)) ≡ negℤ (pos (numberOf g))
   negated-is = toZ-ofZ w64 (pos 0 -ℤ toZ w64 n) negated-fits ∙ taken ∙ ap (λ k. negℤ (pos k)) e
@@ -56,23 +38,11 @@ statedOf (negsuc n) = (suc n, 0)
 said : (r : Answer) → statedOf (signedOf r) ≡ stated r
 unfolding statedOf
 said (Done n) = refl
-said (Refused g) = number-of g
+said (Refused g) = number-of (numberOf g) (ground-small g .0)
   where
-    number-of : (g : Ground) → statedOf (negℤ (pos (numberOf g))) ≡ (numberOf g, 0)
-    number-of ListLength = refl
-    number-of WordKind = refl
-    number-of ExtraBit = refl
-    number-of RowOrder = refl
-    number-of StageCount = refl
-    number-of PlaceField = refl
-    number-of StageMask = refl
-    number-of OutOfRange = refl
-    number-of OutputLength = refl
-    number-of NoChain = refl
-    number-of FrameSize = refl
-    number-of FrameLength = refl
-    number-of CellValue = refl
-    number-of ImageLength = refl
+    number-of : (n : ℕ) → 1 ≤ n → statedOf (negℤ (pos n)) ≡ (n, 0)
+    number-of zero h = absurd (omega arith)
+    number-of (suc n) h = refl
 
 pub signed-once : (r s : Answer) → signedOf r ≡ signedOf s → r ≡ s
 signed-once r s e = stated-once r s (sym (said r) ∙ ap statedOf e ∙ said s)

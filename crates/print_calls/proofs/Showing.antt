@@ -1,16 +1,15 @@
 -- The page of an answer: the lines of a plan, or of the number of a ground.
 use mathlib.Core.Path.{_≡_, refl, sym, ap, _∙_}
 use mathlib.Core.List.{List}
-use Prim.Native.Nat.{ℕ, _%_, _≤_, _<_}
+use Prim.Native.Nat.{ℕ, zero, suc, _%_, _≤_, _<_}
 use lib.ListN.{length, take, length-take}
 use lib.Seq.{take-all}
 use native.Mathlib.Omega.{arith}
 use Rattle.words.specs.Ground.{numberOf, stated}
 use Rattle.words.specs.declared.Ground.{Ground}
-use Rattle.words.specs.declared.Ground.the-variants.{ListLength, WordKind, ExtraBit, RowOrder, StageCount, PlaceField, StageMask, OutOfRange}
-use Rattle.words.specs.declared.Ground.the-variants.{OutputLength, NoChain, FrameSize, FrameLength, CellValue, ImageLength}
 use Rattle.words.specs.declared.Answer.{Answer}
 use Rattle.words.specs.declared.Answer.the-variants.{Done, Refused}
+use Rattle.words.proofs.Refusals.{ground-small}
 use Rattle.planning.specs.Printer.{wordLines, refusedLine, shown}
 use Rattle.text.specs.Page.{Holds}
 use Rattle.text.specs.declared.Page.{Page}
@@ -34,20 +33,11 @@ module _ (a : Answer) (out : List ℕ) (r : Page) where
 
 -- no ground has the number 0, and all are below 100
 refused-is : (g : Ground) (out : List ℕ) → refusedLine (numberOf g % 100) ≡ shown (stated (Refused g)) out
-refused-is ListLength out = refl
-refused-is WordKind out = refl
-refused-is ExtraBit out = refl
-refused-is RowOrder out = refl
-refused-is StageCount out = refl
-refused-is PlaceField out = refl
-refused-is StageMask out = refl
-refused-is OutOfRange out = refl
-refused-is OutputLength out = refl
-refused-is NoChain out = refl
-refused-is FrameSize out = refl
-refused-is FrameLength out = refl
-refused-is CellValue out = refl
-refused-is ImageLength out = refl
+refused-is g out = let s = ground-small g in let e : numberOf g % 100 ≡ numberOf g = omega arith in ap refusedLine e ∙ go (numberOf g) (s .0)
+  where
+    go : (n : ℕ) → 1 ≤ n → refusedLine n ≡ shown (n, 0) out
+    go zero h = absurd (omega arith)
+    go (suc n) h = refl
 
 pub shows-refused : (a : Answer) (out : List ℕ) (r : Page) (g : Ground) (k : ℕ) → a ≡ Refused g → k ≡ numberOf g → Holds (refusedLine (k % 100)) r
     → PageShows a out (take (r .n) (r .bytes))

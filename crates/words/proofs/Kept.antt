@@ -1,7 +1,7 @@
 -- A promise made of numbered tests can be kept on every input, where the numbers are those of grounds and the work can be done where no test holds.
 use mathlib.Core.Path.{_≡_, refl, subst}
 use mathlib.Core.Logic.{_⊎_, inl, inr}
-use mathlib.Core.Bool.{Bool, not, _&&_, _||_}
+use mathlib.Core.Bool.{Bool, not, _||_}
 use mathlib.Core.List.{List, [], _∷_}
 use Prim.Native.Nat.{ℕ, _<_}
 use native.Mathlib.Omega.{arith}
@@ -13,11 +13,7 @@ use Rattle.plane.specs.Lists.{all, upTo}
 use Rattle.plane.proofs.Member.{each-below}
 use Rattle.plane.proofs.Tests.{T-and, T-or, T-dec, clash, cond-ind, eq-eqb}
 use Rattle.words.specs.Ground.{Test, firstOf, numberOf, stated, refusal, Promised, Answered}
-use Rattle.words.proofs.Refusals.{groundOf, promised-done, promised-refusal}
-
--- the number of a ground
-abbrev pub isGround : ℕ → Bool
-isGround n = leb 1 n && leb n 14
+use Rattle.words.proofs.Refusals.{groundOf, isGround, promised-done, promised-refusal}
 
 -- every test has the number of a ground
 abbrev pub known : List Test → Bool
@@ -28,16 +24,16 @@ back : ℕ → Bool
 unfolding groundOf
 back n = not (isGround n) || eqb (numberOf (groundOf n)) n
 
-back-table : T (all back (upTo 15))
+back-table : T (all back (upTo 16))
 unfolding back
 back-table = tt
 
 number-back : (n : ℕ) → T (isGround n) → numberOf (groundOf n) ≡ n
 unfolding back
-number-back n t = go (T-or (not (isGround n)) (eqb (numberOf (groundOf n)) n) .0 (each-below back 15 back-table n below))
+number-back n t = go (T-or (not (isGround n)) (eqb (numberOf (groundOf n)) n) .0 (each-below back 16 back-table n below))
   where
-    below : n < 15
-    below = let h = leb→le n 14 (T-and (leb 1 n) (leb n 14) .0 t .1) in omega arith
+    below : n < 16
+    below = let h = leb→le n 15 (T-and (leb 1 n) (leb n 15) .0 t .1) in omega arith
 
     go : T (not (isGround n)) ⊎ T (eqb (numberOf (groundOf n)) n) → numberOf (groundOf n) ≡ n
     go (inl u) = absurd (clash (isGround n) u t)

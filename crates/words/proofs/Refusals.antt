@@ -1,18 +1,18 @@
 -- Numbered tests of which none holds; and that what an answer says is the whole answer.
 use mathlib.Core.Path.{_≡_, refl, sym, _∙_, ap, subst}
-use mathlib.Core.Logic.{_≢_}
-use mathlib.Core.Bool.{Bool, true, false, not, cond}
+use mathlib.Core.Logic.{_≢_, _⊎_, inl, inr}
+use mathlib.Core.Bool.{Bool, true, false, not, cond, _&&_}
 use mathlib.Core.List.{List, [], _∷_, _++_}
-use Prim.Native.Nat.{ℕ, zero, suc}
+use Prim.Native.Nat.{ℕ, zero, suc, _≤_}
 use native.Mathlib.Omega.{arith}
-use lib.Dec.{T, ltb, eqb, ltb→lt}
+use lib.Dec.{T, ltb, leb, eqb, ltb→lt, leb→le, eqb→eq}
 use lib.ListN.{getD, drop}
 use Rattle.plane.specs.Lists.{all}
-use Rattle.plane.proofs.Tests.{T-and, not-or, eq-eqb}
+use Rattle.plane.proofs.Tests.{T-and, T-dec, T-false, not-or, eq-eqb}
 use Rattle.words.specs.Ground.{Test, firstOf, numberOf, stated, result, refusal, both, Tried, Promised}
 use Rattle.words.specs.declared.Ground.{Ground}
 use Rattle.words.specs.declared.Ground.the-variants.{ListLength, WordKind, ExtraBit, RowOrder, StageCount, PlaceField, StageMask, OutOfRange}
-use Rattle.words.specs.declared.Ground.the-variants.{OutputLength, NoChain, FrameSize, FrameLength, CellValue, ImageLength}
+use Rattle.words.specs.declared.Ground.the-variants.{OutputLength, NoChain, FrameSize, FrameLength, CellValue, ImageLength, RowLength}
 use Rattle.words.specs.declared.Answer.{Answer}
 use Rattle.words.specs.declared.Answer.the-variants.{Done, Refused}
 
@@ -134,7 +134,8 @@ unfoldable pub groundOf : ℕ → Ground
 groundOf n =
     cond (eqb n 1) ListLength (cond (eqb n 2) WordKind (cond (eqb n 3) ExtraBit (cond (eqb n 4) RowOrder (cond (eqb n 5) StageCount
     (cond (eqb n 6) PlaceField (cond (eqb n 7) StageMask (cond (eqb n 8) OutOfRange (cond (eqb n 9) OutputLength (cond (eqb n 10) NoChain
-    (cond (eqb n 11) FrameSize (cond (eqb n 12) FrameLength (cond (eqb n 13) CellValue ImageLength))))))))))))
+    (cond (eqb n 11) FrameSize (cond (eqb n 12) FrameLength (cond (eqb n 13) CellValue
+    (cond (eqb n 14) ImageLength RowLength)))))))))))))
 
 ground-back : (g : Ground) → groundOf (numberOf g) ≡ g
 unfolding groundOf
@@ -152,22 +153,43 @@ ground-back FrameSize = refl
 ground-back FrameLength = refl
 ground-back CellValue = refl
 ground-back ImageLength = refl
+ground-back RowLength = refl
+
+-- a number that a ground may have
+abbrev pub isGround : ℕ → Bool
+isGround n = leb 1 n && leb n 15
+
+pub ground-known : (g : Ground) → T (isGround (numberOf g))
+ground-known ListLength = tt
+ground-known WordKind = tt
+ground-known ExtraBit = tt
+ground-known RowOrder = tt
+ground-known StageCount = tt
+ground-known PlaceField = tt
+ground-known StageMask = tt
+ground-known OutOfRange = tt
+ground-known OutputLength = tt
+ground-known NoChain = tt
+ground-known FrameSize = tt
+ground-known FrameLength = tt
+ground-known CellValue = tt
+ground-known ImageLength = tt
+ground-known RowLength = tt
+
+-- so it is not 0, and has two digits at most
+pub ground-small : (g : Ground) → (1 ≤ numberOf g) × (numberOf g ≤ 99)
+ground-small g =
+    let n = numberOf g in
+    let u = T-and (leb 1 n) (leb n 15) .0 (ground-known g) in
+    let l = leb→le n 15 (u .1) in
+    (leb→le 1 n (u .0), omega arith)
 
 ground-some : (g : Ground) → eqb (numberOf g) 0 ≡ false
-ground-some ListLength = refl
-ground-some WordKind = refl
-ground-some ExtraBit = refl
-ground-some RowOrder = refl
-ground-some StageCount = refl
-ground-some PlaceField = refl
-ground-some StageMask = refl
-ground-some OutOfRange = refl
-ground-some OutputLength = refl
-ground-some NoChain = refl
-ground-some FrameSize = refl
-ground-some FrameLength = refl
-ground-some CellValue = refl
-ground-some ImageLength = refl
+ground-some g = go (numberOf g) (ground-small g .0) (T-dec (eqb (numberOf g) 0))
+  where
+    go : (n : ℕ) → 1 ≤ n → T (eqb n 0) ⊎ T (not (eqb n 0)) → eqb n 0 ≡ false
+    go n h (inl t) = let e = eqb→eq n 0 t in absurd (omega arith)
+    go n h (inr t) = T-false (eqb n 0) t
 
 answerOf : ℕ × ℕ → Answer
 answerOf s = cond (eqb (s .0) 0) (Done (s .1)) (Refused (groundOf (s .0)))

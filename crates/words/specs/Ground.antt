@@ -1,4 +1,5 @@
--- Document 01, "The fourteen grounds, in checking order": the number of each ground, what an answer says, and the first test that holds.
+-- Document 01, "The fourteen grounds, in checking order", and what document 02 adds to them: the number of each ground, what an answer says, and the first test
+-- that holds.
 -- Each call has a list of numbered tests in checking order; a ground added later is one line more in the lists of the calls that meet it.
 use mathlib.Core.Path.{_≡_}
 use mathlib.Core.Logic.{_≢_}
@@ -7,11 +8,11 @@ use mathlib.Core.List.{List, [], _∷_}
 use Prim.Native.Nat.{ℕ}
 use Rattle.words.specs.declared.Ground.{Ground}
 use Rattle.words.specs.declared.Ground.the-variants.{ListLength, WordKind, ExtraBit, RowOrder, StageCount, PlaceField, StageMask, OutOfRange}
-use Rattle.words.specs.declared.Ground.the-variants.{OutputLength, NoChain, FrameSize, FrameLength, CellValue, ImageLength}
+use Rattle.words.specs.declared.Ground.the-variants.{OutputLength, NoChain, FrameSize, FrameLength, CellValue, ImageLength, RowLength}
 use Rattle.words.specs.declared.Answer.{Answer}
 use Rattle.words.specs.declared.Answer.the-variants.{Done, Refused}
 
--- document 01's number of each ground
+-- the number of each ground: document 01's, and from 15 on document 02's
 abbrev pub numberOf : Ground → ℕ
 numberOf ListLength = 1
 numberOf WordKind = 2
@@ -27,6 +28,7 @@ numberOf FrameSize = 11
 numberOf FrameLength = 12
 numberOf CellValue = 13
 numberOf ImageLength = 14
+numberOf RowLength = 15
 
 -- what an answer says: the number of its ground, 0 where it is no refusal; and its result, 0 where it is a refusal
 abbrev pub stated : Answer → ℕ × ℕ

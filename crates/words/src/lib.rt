@@ -39,7 +39,7 @@ pub fn read(w: u32) -> Word
     }
 }
 
-// The grounds, in document 01's order; `numberOf` in specs/Ground.antt gives each its number.
+// The grounds, by their numbers: those of document 01, then those that document 02 adds; `numberOf` in specs/Ground.antt gives each its number.
 pub enum Ground {
     ListLength,
     WordKind,
@@ -55,6 +55,7 @@ pub enum Ground {
     FrameLength,
     CellValue,
     ImageLength,
+    RowLength,
 }
 
 // A result, or a refusal. What the number of a result means is said by each call.
@@ -82,6 +83,7 @@ pub fn number(g: Ground) -> u32
         Ground::FrameLength => 12,
         Ground::CellValue => 13,
         Ground::ImageLength => 14,
+        Ground::RowLength => 15,
     }
 }
 
