@@ -1,0 +1,3 @@
+pub mod Rolling
+pub mod Ends
+pub mod Claim
