@@ -1,5 +1,5 @@
-// An operation's result, on a frame that is packed into a plane in the first of two work images: the stages are run (turn_steps), and the result is cut from the
-// last plane into the other image (`results`).
+// An operation's result, on a frame that is packed into a plane in the first of two work images: the stages are run (turn_steps), and the result is cut from
+// the last plane into the other image (`results`).
 mod results;
 
 use cleaning::Operation;

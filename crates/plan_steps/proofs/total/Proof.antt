@@ -12,13 +12,13 @@ use Rattle.plan_steps.proofs.total.Statement.{statement}
 use Rattle.plan_steps.proofs.total.Tie as tie
 
 abbrev Inv-loop : tie.InvT-loop
-Inv-loop ws down sum₀ i₀ sum i = (2 ≤ i) × (sum ≤ 2 * i) × (sum + extentOf down (drop i ws) ≡ extentOf down (drop 2 ws))
+Inv-loop ws down sum₀ i₀ sum i = (2 ≤ i) × (i ≤ 32) × (sum ≤ 2 * i) × (sum + extentOf down (drop i ws) ≡ extentOf down (drop 2 ws))
 
 abbrev μ-loop : tie.MeasureT-loop
 μ-loop ws down sum₀ i₀ sum i = length ws - i
 
 loop-holds : tie.Need-loop-holds Inv-loop μ-loop
-loop-holds c = (omega arith, omega arith, omega arith)
+loop-holds c = (omega arith, omega arith, omega arith, omega arith)
 
 mul-reach : tie.Need-mul-reach Inv-loop μ-loop
 mul-reach c = search needs
@@ -52,14 +52,14 @@ loop-again c =
     let s = reach-small (st .down) w in
     let e = c .reach .ensures in
     let o = extent-one (st .down) (st .ws .now) (h .i) (omega arith) in
-    (omega arith, omega arith, omega arith)
+    (omega arith, omega arith, omega arith, omega arith)
 
 returns : tie.Need-returns Inv-loop μ-loop
 returns c =
     let h = c .before .loop in
     let st = c .before .before .before .args in
     let z = extent-none (st .down) (st .ws .now) (h .i) (c .loop-test .left) in
-    omega arith
+    (omega arith, omega arith)
 
 pub total-spec : {M : Type 1} → statement M
 total-spec =

@@ -18,7 +18,8 @@ able c = c .before .runnable .ensures .0 (not-false _ (c .if1 .left))
 
 -- the stages were run
 ended : (c : tie.After-stages) → let a = start (c .before .before .before) .args in
-    Ended (a .op) (a .plan .now) (a .w) (a .h) (a .first .now) (a .second .now) (c .stages .result) (c .stages .last .1 .1 .1 .1 .0) (c .stages .last .1 .1 .1 .1 .1 .0)
+    Ended (a .op) (a .plan .now) (a .w) (a .h) (a .first .now) (a .second .now) (c .stages .result) (c .stages .last .1 .1 .1 .1 .0)
+    (c .stages .last .1 .1 .1 .1 .1 .0)
 ended c = let q = able (c .before .before .before) in c .stages .ensures .through (record { words = q .words; room = room-planes (q .room) })
 
 runnable-requires : tie.Need-runnable-requires
