@@ -16,6 +16,7 @@ use Rattle.planning.specs.Planning.{planningTests, Planned, PlanWritten, Unplan
 use Rattle.grids.specs.Frame.{frameTests, load, free}
 use Rattle.grids.specs.Grid.{putTests, stageTests, GridWritten, put, once}
 use Rattle.cleaning.specs.Cleaning.{operationTests, Ran}
+use Rattle.rolling.specs.Rolling.{arrivalTests, Rolled}
 use Rattle.claim.specs.Demand1.{First, NoChain, Demand1}
 
 -- the number in what an answer says
@@ -57,4 +58,6 @@ demand1 = record {
   counting = λ W H f r a. first (frameTests W H f) r (Unit {0}) (stated r ≡ result (load f)) a (λ e. ground e) .0;
   cleaning = λ op plan W H f i j r i′ j′ a. first (operationTests plan W H f i j) r ((i′ ≡ i) × (j′ ≡ j)) (Ran op plan W H f i j r i′ j′) a
       (λ w. ground (w .answer));
+  arriving = λ plan W H row live kept r live′ kept′ a. first (arrivalTests plan W H row live kept) r ((live′ ≡ live) × (kept′ ≡ kept))
+      ((stated r ≡ result 0) × Rolled (planPoints plan) W H row live kept live′ kept′) a (λ w. ground (w .0));
 }

@@ -26,6 +26,7 @@ use Rattle.shapes.proofs.Written.{plan-points}
 use Rattle.planning.specs.Planning.{ShapeSet}
 use Rattle.cleaning.specs.Cleaning.{Cleaned, operationTests, part}
 use Rattle.cleaning.specs.Operation.{Direct}
+use Rattle.claim.proofs.Arriving.{row-shows}
 use Rattle.claim.specs.Demand2.{ListShows, Demand2}
 use Rattle.claim.proofs.Cells.{put-shown, stage-shown, load-counted}
 
@@ -79,4 +80,5 @@ demand2 = record {
   putting = put-shown;
   staging = stage-shown;
   counting = load-counted;
+  arriving = λ plan W H row live kept s live′ kept′ a e. row-shows plan W H row live kept e s live′ kept′ a;
 }

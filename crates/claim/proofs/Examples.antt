@@ -3,12 +3,13 @@ use mathlib.Core.Path.{_≡_, refl, sym, _∙_, ap, subst}
 use mathlib.Core.Logic.{inl, inr, ⊎-elim}
 use mathlib.Core.Bool.{false}
 use mathlib.Core.List.{List, [], _∷_}
-use Prim.Native.Nat.{ℕ, _+_, _≤_}
+use Prim.Native.Nat.{ℕ, _+_, _≤_, _<_}
 use native.Mathlib.Omega.{arith}
-use lib.IntN.{pos}
+use lib.IntN.{pos, natAbs}
 use lib.ListN.{length, take, drop, getD, replicate}
 use lib.Seq.{getD-drop}
-use Rattle.plane.specs.Point.{_+ᵖ_, negᵖ, origin}
+use Rattle.plane.specs.Lists.{In}
+use Rattle.plane.specs.Point.{Point, _+ᵖ_, negᵖ, origin}
 use Rattle.plane.proofs.Algebra.{≐-trans, ≐-sym}
 use Rattle.words.specs.Ground.{stated, result, refusal}
 use Rattle.words.specs.declared.Answer.{Answer}
@@ -18,6 +19,7 @@ use Rattle.masks.proofs.Measured.{four}
 use Rattle.shapes.specs.Calls.{Moved, movedPoints, TurnedBack}
 use Rattle.shapes.specs.Listed.{listed}
 use Rattle.shapes.proofs.Listed.{listed-same}
+use Rattle.shapes.specs.Plan.{planPoints, planTests}
 use Rattle.shapes.specs.Shape.{shapePoints, shapeTests, outOfRange}
 use Rattle.planning.specs.Planning.{ShapeSet, Planned, PlanWritten}
 use Rattle.grids.specs.Frame.{frameTests, LoadCounted}
@@ -26,11 +28,14 @@ use Rattle.grids.specs.Image.{cells, valueAt}
 use Rattle.cleaning.specs.Cleaning.{part}
 use Rattle.cleaning.specs.Operation.{inTurn, lastGrid}
 use Rattle.cleaning.specs.declared.Operation.the-variants.{Closing}
+use Rattle.rolling.specs.Claim.{allFree, Arrivals, Right, takesRow}
+use Rattle.rolling.specs.Rolling.{arrivalTests, Arrived}
 use Rattle.claim.specs.Demand1.{Demand1}
 use Rattle.claim.specs.Demand2.{Demand2}
 use Rattle.claim.specs.Demand3.{Demand3, Agrees, Decided, Served}
 use Rattle.claim.specs.Measured.{fourWords, threeWords}
 use Rattle.claim.specs.RoundTrip.{RoundTrip}
+use Rattle.claim.specs.Waterfall.{Waterfall}
 use Rattle.claim.specs.Whole.{handedFor, Lent}
 use Rattle.claim.proofs.Demand2.{moved-is}
 use Rattle.claim.proofs.Measured.{accepts}
@@ -40,6 +45,10 @@ four-chain : (c : Chain subset (ShapeSet fourWords)) × (length (c .members) ≡
 unfolding shapePoints _+ᵖ_ negᵖ
 four-chain = (record { members = 3 ∷ 5 ∷ []; offset = origin; masks = tt; sum = four .plan .sum }, refl)
 
+-- the plan of the points (0, 0) and (0, 1)
+abbrev below : List ℕ
+below = 0x30000001 ∷ 0x40000f0f ∷ 0x50000009 ∷ []
+
 -- ---- demand 1
 
 -- a cell of 2: ground 13, and the image is as it was
@@ -48,6 +57,15 @@ unfolding frameTests putTests
 put-refused D r i′ p =
     let d = D .putting 1 1 (2 ∷ []) (replicate 256 7) r i′ p in
     (d .0, d .1 (λ z. let n : _≡_ {A = ℕ} 13 0 = sym (d .0) ∙ z in omega arith))
+
+-- a row of two cells in frames of one column: ground 15, and both frames are as they were
+arrival-refused : Demand1 → (r : Answer) (l k : List ℕ) → Arrived below 1 1 (1 ∷ 0 ∷ []) (0 ∷ []) (1 ∷ []) r l k
+    → (stated r .0 ≡ 15) × (l ≡ 0 ∷ []) × (k ≡ 1 ∷ [])
+unfolding arrivalTests planTests planPoints maskCells _+ᵖ_
+arrival-refused D r l k p =
+    let d = D .arriving below 1 1 (1 ∷ 0 ∷ []) (0 ∷ []) (1 ∷ []) r l k p in
+    let u = d .1 (λ z. let n : _≡_ {A = ℕ} 15 0 = sym (d .0) ∙ z in omega arith) in
+    (d .0, u .0, u .1)
 
 -- the row of four cells is not refused by 10
 four-not-ten : Demand1 → (out : List ℕ) → 32 ≤ length out → (r : Answer) (out′ : List ℕ) → Planned fourWords out r out′ → stated r ≡ refusal 10 → ⊥
@@ -88,7 +106,8 @@ moved-laid D r out′ p n =
     let ws : List ℕ = 0x10000000 ∷ 0x20000005 ∷ [] in
     let s = D .moving ws (pos 2, pos 3) (replicate 18 7) r out′ p refl in
     let same = ≐-trans (s .stands) (≐-sym (moved-is ws (pos 2, pos 3))) in
-    subst (λ k. take k out′ ≡ 0x10000000 ∷ 0x20030014 ∷ []) n (s .laid ∙ listed-same (shapePoints (take (stated r .1) out′)) (movedPoints ws (pos 2, pos 3)) same)
+    subst (λ k. take k out′ ≡ 0x10000000 ∷ 0x20030014 ∷ []) n
+    (s .laid ∙ listed-same (shapePoints (take (stated r .1) out′)) (movedPoints ws (pos 2, pos 3)) same)
 
 -- one column of two rows, the second occupied, is so in the grid
 put-right : Demand2 → (r : Answer) (i′ : List ℕ) → FramePut 1 2 (0 ∷ 1 ∷ []) (replicate 273 7) r i′ → getD i′ 16 0 ≡ 1
@@ -101,6 +120,42 @@ put-right D r i′ p = ⊎-elim
 counts-two : Demand2 → (r : Answer) → LoadCounted 3 1 (1 ∷ 0 ∷ 1 ∷ []) r → stated r ≡ result 2
 unfolding frameTests cells valueAt
 counts-two D r p = D .counting 3 1 (1 ∷ 0 ∷ 1 ∷ []) r p refl
+
+-- the points (0, 0) and (0, 1), and frames of one column: the arriving row is the last
+arrives-last : Demand2 → (r : Answer) (l k : List ℕ) → Arrived below 1 2 (1 ∷ []) (0 ∷ 0 ∷ []) (0 ∷ 0 ∷ []) r l k → getD l 1 0 ≡ 1
+unfolding arrivalTests planTests planPoints maskCells _+ᵖ_
+arrives-last D r l k p = D .arriving below 1 2 (1 ∷ []) (0 ∷ 0 ∷ []) (0 ∷ 0 ∷ []) r l k p refl .last 0 1 (omega arith) refl
+
+-- row 2 of five lies farther than 1 from both ends: it is row 3 of before
+row-moved : Demand2 → (r : Answer) (l k : List ℕ) → Arrived below 1 5 (0 ∷ []) (replicate 5 0) (0 ∷ 0 ∷ 0 ∷ 1 ∷ 0 ∷ []) r l k → getD k 2 0 ≡ 1
+unfolding arrivalTests planTests planPoints maskCells _+ᵖ_
+row-moved D r l k p = D .arriving below 1 5 (0 ∷ []) (replicate 5 0) (0 ∷ 0 ∷ 0 ∷ 1 ∷ 0 ∷ []) r l k p refl .far 0 2 (omega arith) (omega arith) (λ q h.
+    ⊎-elim (λ e. subst Far (sym e) (omega arith, omega arith)) (⊎-elim (λ e. subst Far (sym e) (omega arith, omega arith)) (λ n. absurd n)) h)
+  where
+    Far : Point → Type 0
+    Far q = (natAbs (q .1) < 2) × (natAbs (q .1) < 2)
+
+-- row 3 is at distance 1 from the last row: it is worked out anew
+row-anew : Demand2 → (r : Answer) (l k : List ℕ) → Arrived below 1 5 (0 ∷ []) (0 ∷ 0 ∷ 0 ∷ 0 ∷ 1 ∷ []) (replicate 5 0) r l k → getD k 3 0 ≡ 1
+unfolding arrivalTests planTests planPoints maskCells valueAt _+ᵖ_
+row-anew D r l k p =
+    let s = D .arriving below 1 5 (0 ∷ []) (0 ∷ 0 ∷ 0 ∷ 0 ∷ 1 ∷ []) (replicate 5 0) r l k p refl in ⊎-elim
+    (λ q. q .0)
+    (λ q. absurd (q .1 ((pos 0, pos 3), (pos 0, pos 0), s .next 0 3 (omega arith) (omega arith), inl refl, refl)))
+    (s .near 0 3 (omega arith) (omega arith) (λ f. let n : 1 < 1 = f (pos 0, pos 1) (inr (inl refl)) .1 in omega arith))
+
+-- ---- the waterfall
+
+-- 1, then 0 twice, in three rows: the kept frame has the cell that is occupied, and the one below it
+waterfall-below : Waterfall → (l k : List ℕ) → Arrivals below 1 3 ((1 ∷ []) ∷ (0 ∷ []) ∷ (0 ∷ []) ∷ []) (allFree 1 3) (allFree 1 3) l k → getD k 1 0 ≡ 1
+unfolding takesRow planTests planPoints maskCells valueAt _+ᵖ_ negᵖ
+waterfall-below W l k a =
+    let rows : List (List ℕ) = (1 ∷ []) ∷ (0 ∷ []) ∷ (0 ∷ []) ∷ [] in
+    let now : l ≡ 1 ∷ 0 ∷ 0 ∷ [] = W .present below 1 3 rows l k a in
+    let D = subst (λ f. Right 1 3 (In (planPoints below)) f k) now (W .right below 1 3 rows l k a) in ⊎-elim
+    (λ q. q .0)
+    (λ q. absurd (q .1 ((pos 0, pos 0), (pos 0, pos 1), refl, inr (inl refl), refl)))
+    (D .cell 0 1 (omega arith) (omega arith))
 
 -- ---- demand 3
 

@@ -24,6 +24,7 @@ use Rattle.grids.specs.Frame.{frameTests, load, free}
 use Rattle.grids.specs.Grid.{putTests, stageTests, put, once, written, GridWritten, workTests}
 use Rattle.cleaning.specs.Cleaning.{operationTests, Ran, Cleaned}
 use Rattle.cleaning.proofs.Kept.{can-clean}
+use Rattle.rolling.proofs.Possible.{possible}
 use Rattle.claim.specs.Kept.{Kept}
 
 -- ---- calls that write a list, or a grid
@@ -76,4 +77,5 @@ kept = record {
   putting = λ W H f i. grid-kept (putTests W H f i) W H (put W H f) i tt;
   staging = λ erode w W H g i. grid-kept (stageTests w W H g i) W H (once erode free W H (stageMask w) g) i tt;
   cleaning = cleaning-kept;
+  arriving = possible;
 }

@@ -1,5 +1,6 @@
 pub mod Demand1
 pub mod Cells
+pub mod Arriving
 pub mod Demand2
 pub mod Demand3
 pub mod RoundTrip

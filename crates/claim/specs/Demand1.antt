@@ -15,6 +15,7 @@ use Rattle.grids.specs.Frame.{frameTests, LoadCounted}
 use Rattle.grids.specs.Grid.{putTests, FramePut, stageTests, Staged}
 use Rattle.cleaning.specs.Cleaning.{operationTests, Cleaned}
 use Rattle.cleaning.specs.declared.Operation.{Operation}
+use Rattle.rolling.specs.Rolling.{arrivalTests, Arrived}
 
 -- for a call with these tests: the number that is answered is that of the first ground that holds, 0 where none does, and a refusal leaves all that is
 -- lent as it is
@@ -41,3 +42,5 @@ pub record Demand1 : Type 0 where
   pub staging : (erode : Bool) (w W H : ℕ) (g i : List ℕ) (r : Answer) (i′ : List ℕ) → Staged erode w W H g i r i′ → First (stageTests w W H g i) r (i′ ≡ i)
   pub cleaning : (op : Operation) (plan : List ℕ) (W H : ℕ) (f i j : List ℕ) (r : Answer) (i′ j′ : List ℕ)
       → Cleaned op plan W H f i j r i′ j′ → First (operationTests plan W H f i j) r ((i′ ≡ i) × (j′ ≡ j))
+  pub arriving : (plan : List ℕ) (W H : ℕ) (row live kept : List ℕ) (r : Answer) (live′ kept′ : List ℕ) → Arrived plan W H row live kept r live′ kept′
+      → First (arrivalTests plan W H row live kept) r ((live′ ≡ live) × (kept′ ≡ kept))

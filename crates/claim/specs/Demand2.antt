@@ -1,13 +1,13 @@
 -- The owner's demand 2: sums, dilation, erosion, opening and closing are those of Minkowski's definitions on the plane, cut to the frame only at the end;
 -- shape and plan lists are read and written exactly as laid out. The layouts themselves are shapePoints, planPoints, listed and planWords of shapes. The single
--- stage, putting and the load are what the plane says of the grid or frame that they read.
+-- stage, putting, the load and an arriving row are what the plane says of the grid or frame that they read.
 use mathlib.Core.Path.{_≡_}
 use mathlib.Core.Logic.{_⊎_}
 use mathlib.Core.Bool.{Bool, true, false}
 use mathlib.Core.List.{List}
-use Prim.Native.Nat.{ℕ, _+_, _*_, _<_}
+use Prim.Native.Nat.{ℕ, suc, _+_, _-_, _*_, _<_}
 use lib.Dec.{eqb}
-use lib.IntN.{pos}
+use lib.IntN.{pos, natAbs}
 use lib.ListN.{length, getD, take, drop}
 use Rattle.plane.specs.Lists.{In, keep}
 use Rattle.plane.specs.Point.{Point, PointSet, _≐_, _⊕_, moved, dilation, erosion}
@@ -27,6 +27,7 @@ use Rattle.grids.specs.Image.{cells}
 use Rattle.cleaning.specs.Operation.{Says, Direct}
 use Rattle.cleaning.specs.Cleaning.{operationTests, part, Cleaned}
 use Rattle.cleaning.specs.declared.Operation.{Operation}
+use Rattle.rolling.specs.Rolling.{arrivalTests, Arrived}
 
 -- the words written to out, which then is out′, are as many as the number answered; they stand for the set S, and are laid out as the list of their points
 -- is, with the least anchor; the words past them stay
@@ -47,6 +48,21 @@ pub record GridShows (W H : ℕ) (S : PointSet) (i : List ℕ) (r : Answer) (i�
 abbrev pub stageMade : Bool → PointSet → PointSet → PointSet
 stageMade true X A = erosion X A
 stageMade false X A = dilation X A
+
+-- row r lies farther from row 0, and from the last of H rows, than each point of A from its row
+abbrev pub Farther : PointSet → ℕ → ℕ → Type 0
+Farther A H r = (p : Point) → A p → (natAbs (p .1) < r) × (natAbs (p .1) < H - 1 - r)
+
+-- 0 is answered; the live frame has its rows 1 to H − 1 then, and the arriving row as the last; of the kept frame, a row that lies farther from both ends than
+-- the points A reach is the next row of before, and every other is what the plane's dilation by A makes of the live frame as it is then
+pub record RowShows (A : PointSet) (W H : ℕ) (row live kept : List ℕ) (s : Answer) (live′ kept′ : List ℕ) : Type 0 where
+  pub answer : stated s ≡ result 0
+  pub live-size : length live′ ≡ W * H
+  pub next : (x r : ℕ) → x < W → suc r < H → getD live′ (r * W + x) 0 ≡ getD live (suc r * W + x) 0
+  pub last : (x r : ℕ) → x < W → suc r ≡ H → getD live′ (r * W + x) 0 ≡ getD row x 0
+  pub kept-size : length kept′ ≡ W * H
+  pub far : (x r : ℕ) → x < W → r < H → Farther A H r → getD kept′ (r * W + x) 0 ≡ getD kept (suc r * W + x) 0
+  pub near : (x r : ℕ) → x < W → r < H → ¬ Farther A H r → Says (getD kept′ (r * W + x) 0) (dilation (occupied (frame free W H live′)) A (pos x, pos r))
 
 pub record Demand2 : Type 0 where
   -- the words written stand for exactly the points moved, joined or summed, or for those of the plan
@@ -70,3 +86,6 @@ pub record Demand2 : Type 0 where
   -- the load is the number of the frame's points that are occupied
   pub counting : (W H : ℕ) (f : List ℕ) (r : Answer) → LoadCounted W H f r → firstOf (frameTests W H f) ≡ 0
       → stated r ≡ result (length (keep (λ p. eqb (frame free W H f p) full) (cells W H (λ p. p))))
+  -- an arriving row: what both frames show then
+  pub arriving : (plan : List ℕ) (W H : ℕ) (row live kept : List ℕ) (s : Answer) (live′ kept′ : List ℕ) → Arrived plan W H row live kept s live′ kept′
+      → firstOf (arrivalTests plan W H row live kept) ≡ 0 → RowShows (In (planPoints plan)) W H row live kept s live′ kept′

@@ -15,6 +15,7 @@ use Rattle.grids.specs.Frame.{LoadCounted}
 use Rattle.grids.specs.Grid.{FramePut, Staged}
 use Rattle.cleaning.specs.Cleaning.{Cleaned}
 use Rattle.cleaning.specs.declared.Operation.{Operation}
+use Rattle.rolling.specs.Rolling.{Arrived}
 
 pub record Kept : Type 0 where
   pub moving : (ws : List ℕ) (d : Point) (out : List ℕ) → (r : Answer) × (out′ : List ℕ) × Moved ws d out r out′
@@ -29,3 +30,5 @@ pub record Kept : Type 0 where
   pub staging : (erode : Bool) (w W H : ℕ) (g i : List ℕ) → (r : Answer) × (i′ : List ℕ) × Staged erode w W H g i r i′
   pub cleaning : (op : Operation) (plan : List ℕ) (W H : ℕ) (f i j : List ℕ)
       → (r : Answer) × (i′ : List ℕ) × (j′ : List ℕ) × Cleaned op plan W H f i j r i′ j′
+  pub arriving : (plan : List ℕ) (W H : ℕ) (row live kept : List ℕ)
+      → (r : Answer) × (live′ : List ℕ) × (kept′ : List ℕ) × Arrived plan W H row live kept r live′ kept′

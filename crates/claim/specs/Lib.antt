@@ -5,3 +5,4 @@ pub mod RoundTrip
 pub mod Kept
 pub mod Whole
 pub mod Measured
+pub mod Waterfall
