@@ -10,9 +10,9 @@
  * stages, masks never falling (2 to 32 words).
  *
  * Answers. Each call answers 0 or more, as is said there, or -N, where N is the ground on which it refuses (enum
- * musq_ground); musq_part refuses nothing. Grounds are tried in the order of their numbers, each over all that is
- * given before the next, and the first that holds is the answer. A refusal changes nothing. What is lent for reading
- * (const) is never changed.
+ * musq_ground); musq_part refuses nothing. Grounds are tried in the order in which they stand at each call, each over
+ * all that is given before the next, and the first that holds is the answer. A refusal changes nothing. What is lent for
+ * reading (const) is never changed.
  *
  * Pointers. Each list, frame and image is a pointer and the number of its words or bytes. Where that number is 0 the
  * pointer may be null, in every call, and the call answers as for any empty list, frame or image. Else the pointer is
@@ -23,8 +23,8 @@
  * Threads. Nothing is kept from one call to the next, and no call allocates. Calls may run on several threads at the
  * same time, as long as none writes what another reads or writes.
  *
- * The archive is for x86-64 alone (ELF, as on Linux), compiled for no more than SSE2. Of the C library it needs memcpy
- * and memset.
+ * The archive is for x86-64 alone (ELF, as on Linux), compiled for no more than SSE2. Of the C library it needs memcpy,
+ * memmove and memset.
  */
 #ifndef MUSQERPI_H
 #define MUSQERPI_H
@@ -36,7 +36,7 @@
 extern "C" {
 #endif
 
-/* The fourteen grounds for refusal, in checking order. */
+/* The grounds for refusal. They are tried in the order of their numbers, but for 15, which comes before 13. */
 enum musq_ground {
     MUSQ_LIST_LENGTH = 1,    /* a list is too short or too long: a shape has 2 to 17 words, a plan 2 to 32 */
     MUSQ_WORD_KIND = 2,      /* a word's kind isn't the one its place calls for */
@@ -53,7 +53,8 @@ enum musq_ground {
     MUSQ_FRAME_SIZE = 11,    /* W or H isn't 1 to 240 */
     MUSQ_FRAME_LENGTH = 12,  /* the frame's length isn't W x H */
     MUSQ_CELL_VALUE = 13,    /* a cell is above 1 */
-    MUSQ_IMAGE_LENGTH = 14   /* a work image has fewer than (W + 15) x (H + 15) bytes */
+    MUSQ_IMAGE_LENGTH = 14,  /* a work image has fewer than (W + 15) x (H + 15) bytes */
+    MUSQ_ROW_LENGTH = 15     /* the arriving row's length isn't W */
 };
 
 /* The five calls on lists write a list to the start of out and answer its length in words; the words of out past it
@@ -140,6 +141,17 @@ int64_t musq_close(const uint32_t *plan, size_t n, size_t w, size_t h, const uin
  */
 int64_t musq_part(int64_t stages, size_t w, size_t h, const uint8_t *first, size_t first_n, const uint8_t *second,
                   size_t second_n, uint8_t *image);
+
+/* A rolling waterfall: a row of W cells arrives in the frame live, and the frame kept beside it, which is the dilation of
+ * live by the plan's points, is brought up to date. live has its rows 1 to H - 1 afterwards, and then the row. With Y the
+ * greatest |y| of the plan's points, its offset included: row r of kept is its row r + 1 of before where r > Y and
+ * H - 1 - r > Y, and every other row is worked out from live as it is then. So from two frames of free cells on, if
+ * nobody else writes them and the plan stays the same, kept is what musq_dilate gives of live after every call, refused
+ * ones among them. A kept frame that was wrong has its rows near both ends right, and the others moved. There is no work
+ * image. live and kept must not overlap each other, nor the plan, nor the row. Answers 0.
+ * Grounds: 1, 2, 3, 5, 6, 7, 8, 11, 12 (over live and kept), 15, 13 (over live, kept and the row). */
+int64_t musq_arrive(const uint32_t *plan, size_t n, size_t w, size_t h, const uint8_t *row, size_t row_n, uint8_t *live,
+                    size_t live_n, uint8_t *kept, size_t kept_n);
 
 #ifdef __cplusplus
 }

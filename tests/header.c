@@ -234,11 +234,46 @@ static void parts(void)
     expect_length(INT64_MIN, IMAGE, IMAGE, 0, 0);
 }
 
+/* ---- arrivals: the points (0, 0) and (0, 1), and one column of three rows */
+
+static const uint32_t below[] = {0x30000001, 0x40000f0f, 0x50000009};
+static uint8_t live[4], kept[4];
+
+/* The answer n is the one expected, and the frames have these cells; the byte past each is as it was. */
+static void expect_frames(const char *call, int64_t n, int64_t answer, const uint8_t *rows, const uint8_t *dilated)
+{
+    check(call, n == answer && memcmp(live, rows, 3) == 0 && memcmp(kept, dilated, 3) == 0 && live[3] == 0xa5 && kept[3] == 0xa5);
+}
+
+static int64_t arrive(const uint8_t *row, size_t row_n)
+{
+    return musq_arrive(below, 3, 1, 3, row, row_n, live, 3, kept, 3);
+}
+
+static void arrivals(void)
+{
+    static const uint8_t none[] = {0, 0, 0}, one[] = {0, 0, 1}, two[] = {0, 1, 1}, next[] = {0, 1, 0};
+    static const uint8_t occupied[] = {1, 2}, empty[] = {0};
+
+    memset(live, 0, 3);
+    memset(kept, 0, 3);
+    live[3] = kept[3] = 0xa5;
+    expect_frames("musq_arrive, no row", arrive(NULL, 0), -MUSQ_ROW_LENGTH, none, none);
+    expect_frames("musq_arrive, two cells", arrive(occupied, 2), -MUSQ_ROW_LENGTH, none, none);
+    expect_frames("musq_arrive, a cell of 2", arrive(occupied + 1, 1), -MUSQ_CELL_VALUE, none, none);
+    expect_frames("musq_arrive, no plan", musq_arrive(NULL, 0, 1, 3, empty, 1, live, 3, kept, 3), -MUSQ_LIST_LENGTH, none, none);
+    expect_frames("musq_arrive, no live frame", musq_arrive(below, 3, 1, 3, empty, 1, NULL, 0, kept, 3), -MUSQ_FRAME_LENGTH, none, none);
+    expect_frames("musq_arrive, no kept frame", musq_arrive(below, 3, 1, 3, empty, 1, live, 3, NULL, 0), -MUSQ_FRAME_LENGTH, none, none);
+    expect_frames("musq_arrive", arrive(occupied, 1), 0, one, one);
+    expect_frames("musq_arrive, the next", arrive(empty, 1), 0, next, two);
+}
+
 int main(void)
 {
     lists();
     frames();
     operations();
     parts();
+    arrivals();
     return wrong != 0;
 }

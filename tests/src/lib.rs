@@ -1,5 +1,5 @@
 //! Tests of the library through its C boundary, against an independent
-//! implementation written from document 01.
+//! implementation written from documents 01 and 02.
 
 pub mod cases;
 pub mod check;
@@ -11,4 +11,5 @@ pub mod lists;
 pub mod operations;
 pub mod random;
 pub mod reference;
+pub mod rolling;
 pub mod tally;

@@ -7,6 +7,7 @@ ghost use Rattle.grids.specs.Grid.{FramePut, Staged};
 ghost use Rattle.cleaning.specs.declared.Operation.the-variants.{Dilation, Erosion, Opening, Closing};
 ghost use Rattle.cleaning.specs.Cleaning.{Cleaned};
 ghost use Rattle.numbers.specs.Numbers.{Stands, erodes, PartFound};
+ghost use Rattle.rolling.specs.Rolling.{Arrived};
 
 // Planning a shape.
 #[no_mangle]
@@ -157,4 +158,20 @@ pub extern "C" fn musq_part<'a>(
     ensures { λ r. ⌜ PartFound stages w h (now (first .entry)) (now (second .entry)) r (now (image .exit)) ⌝ }
 {
     numbers::part_of(stages, w, h, first, second, image)
+}
+
+// A row arrives in the live frame, and the dilated frame kept beside it is brought up to date.
+#[no_mangle]
+pub extern "C" fn musq_arrive(
+    plan: &[u32],
+    w: usize,
+    h: usize,
+    row: &[u8],
+    live: &mut [u8],
+    kept: &mut [u8],
+) -> i64
+    ensures { λ r. ⌜ Stands r (λ a. Arrived (now (plan .entry)) w h (now (row .entry)) (now (live .entry)) (now (kept .entry)) a (now (live .exit))
+        (now (kept .exit))) ⌝ }
+{
+    numbers::signed(rolling_calls::arrive(plan, w, h, row, live, kept))
 }

@@ -18,17 +18,23 @@ const FRAME: [Ground; 4] = [
     (14, short_image),
 ];
 
-/// All grounds that hold, in checking order. Ground 8 is left out where 1, 2 or 3 holds
-/// or the points are none.
+/// All grounds that hold, in checking order.
 pub fn holding(case: &Case) -> Vec<usize> {
-    let of_list = PLAN.iter().filter(|(_, holds)| holds(&case.plan));
-    let mut held: Vec<usize> = of_list.map(|(number, _)| *number as usize).collect();
-    let unread = held.iter().any(|&number| number <= 3);
-    if !unread && out_of_range(&case.plan) {
-        held.push(8);
-    }
+    let mut held = of_plan_list(&case.plan);
     let of_frame = FRAME.iter().filter(|(_, holds)| holds(case));
     held.extend(of_frame.map(|(number, _)| number));
+    held
+}
+
+/// The grounds that hold for a plan list, in checking order. Ground 8 is left out where
+/// 1, 2 or 3 holds or the points are none.
+pub fn of_plan_list(plan: &[u32]) -> Vec<usize> {
+    let of_list = PLAN.iter().filter(|(_, holds)| holds(plan));
+    let mut held: Vec<usize> = of_list.map(|(number, _)| *number as usize).collect();
+    let unread = held.iter().any(|&number| number <= 3);
+    if !unread && out_of_range(plan) {
+        held.push(8);
+    }
     held
 }
 

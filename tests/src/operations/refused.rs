@@ -13,12 +13,7 @@ impl Maker {
     pub fn refused(&mut self, op: Op, held: &[usize]) -> Case {
         let holds = |ground: usize| held.contains(&ground);
         let plan = self.refused_plan(held);
-        let size = match (holds(11), holds(13)) {
-            (false, _) => self.random.pick(&GOOD_SIZES),
-            (true, false) => self.random.pick(&BAD_SIZES),
-            // A frame has a cell that is above 1.
-            (true, true) => self.random.pick(&BAD_SIZES[..3]),
-        };
+        let size = self.size_with(holds(11), holds(13));
         let mut frame = vec![1; self.frame_length(size.0 * size.1, holds(12))];
         if holds(13) {
             let place = match self.random.below(3) {
@@ -36,8 +31,17 @@ impl Maker {
         Case::new(op, &plan, size, &frame, (grid - less.0, grid - less.1))
     }
 
+    /// A size, bad by ground 11 or not; it has cells, if one is to be above 1.
+    pub fn size_with(&mut self, bad: bool, cell: bool) -> (usize, usize) {
+        match (bad, cell) {
+            (false, _) => self.random.pick(&GOOD_SIZES),
+            (true, false) => self.random.pick(&BAD_SIZES),
+            (true, true) => self.random.pick(&BAD_SIZES[..3]),
+        }
+    }
+
     /// As many as the cells, or another number, which isn't 0.
-    fn frame_length(&mut self, cells: usize, wrong: bool) -> usize {
+    pub fn frame_length(&mut self, cells: usize, wrong: bool) -> usize {
         match wrong {
             false => cells,
             true if cells > 1 && self.random.once_in(2) => cells - 1,
@@ -47,7 +51,7 @@ impl Maker {
 
     /// A plan list in which these of grounds 1 to 8 hold, ground 1 by a list that is too
     /// long.
-    fn refused_plan(&mut self, held: &[usize]) -> Vec<u32> {
+    pub fn refused_plan(&mut self, held: &[usize]) -> Vec<u32> {
         let holds = |ground: usize| held.contains(&ground);
         let stages = match holds(1) {
             true => self.random.pick(&[31, 32, 40]),
