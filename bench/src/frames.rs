@@ -1,11 +1,12 @@
-//! Frames: putting, the load, single stages and whole operations at the greatest size, 240
-//! by 240, and the last two on small frames; the library beside OpenCV, leptonica, Rust and
-//! plain copies.
+//! Frames: putting, the load, single stages, whole operations and arriving rows at the
+//! greatest size, 240 by 240, and stages and operations on small frames; the library beside
+//! OpenCV, leptonica, Rust and plain copies.
 
 use goals::Rows;
 use musqerpi_tests::frames::grid_of;
 use std::fmt;
 
+mod arriving;
 #[cfg(feature = "before")]
 mod before;
 mod builds;
@@ -66,12 +67,15 @@ pub fn run() {
     let loads = load::run();
     let stages = stages::run();
     let operations = operations::run();
+    let (thin_arrivals, thick_arrivals) = arriving::run();
     let (small_stages, small_operations) = small::run();
     goals::print(&Rows {
         puts,
         loads,
         stages,
         operations,
+        thin_arrivals,
+        thick_arrivals,
         small_stages,
         small_operations,
     });

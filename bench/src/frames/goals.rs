@@ -12,6 +12,8 @@ pub struct Rows {
     pub loads: Vec<Row>,
     pub stages: Vec<Row>,
     pub operations: Vec<(usize, Row)>,
+    pub thin_arrivals: Vec<Row>,
+    pub thick_arrivals: Vec<Row>,
     pub small_stages: Vec<Row>,
     pub small_operations: Vec<Row>,
 }
@@ -62,4 +64,7 @@ pub fn print(rows: &Rows) {
     at_most("putting", 1.2, "fill and copy", rows.puts.iter());
     at_most("load", 1.5, "chunks", rows.loads.iter());
     at_most("load", 0.5, "before", rows.loads.iter());
+    let (thin, thick) = (rows.thin_arrivals.iter(), rows.thick_arrivals.iter());
+    at_most("arrivals, thin,", 0.7, "dilate", thin);
+    at_most("arrivals, thick,", 1.0, "dilate", thick);
 }

@@ -19,9 +19,13 @@ const PACE: Pace = Pace {
 /// A plan and its name in a table.
 pub type Plan = (&'static str, Vec<u32>);
 
-/// Thin masks and thick shapes, of 1, 4 and 8 stages.
-fn plans() -> Vec<Plan> {
-    let thin = [3, 3, 5, 5, 9, 9, 65, 65];
+/// Four stages of two cells each.
+pub fn four_thin() -> Vec<u32> {
+    plan_list((-1, -1), &[3, 5, 9, 65])
+}
+
+/// The plan of the disk D(4) in nine columns and rows, taken from this anchor.
+pub fn disk(anchor: (u32, u32)) -> Vec<u32> {
     let disk = |x: i32, y: i32| (x - 4).pow(2) + (y - 4).pow(2) <= 16;
     let row = |y: i32| {
         (0..9)
@@ -32,14 +36,24 @@ fn plans() -> Vec<Plan> {
     for y in 0..9 {
         rows[y as usize] = row(y);
     }
-    let of = |anchor, rows: &[u16; 16]| planned(&list_of_rows(anchor, rows)).expect("a plan");
+    planned(&list_of_rows(anchor, &rows)).expect("a plan")
+}
+
+/// The plan of the full window.
+pub fn window() -> Vec<u32> {
+    planned(&list_of_rows((8, 8), &[0xffff; 16])).expect("a plan")
+}
+
+/// Thin masks and thick shapes, of 1, 4 and 8 stages.
+fn plans() -> Vec<Plan> {
+    let thin = [3, 3, 5, 5, 9, 9, 65, 65];
     vec![
         ("1 stage, 2 cells", plan_list((0, 0), &[17])),
         ("1 stage, 9 cells", plan_list((-1, -1), &[511])),
-        ("4 stages, thin", plan_list((-1, -1), &[3, 5, 9, 65])),
-        ("4 stages, disk", of((4, 4), &rows)),
+        ("4 stages, thin", four_thin()),
+        ("4 stages, disk", disk((4, 4))),
         ("8 stages, thin", plan_list((-3, -3), &thin)),
-        ("8 stages, window", of((8, 8), &[0xffff; 16])),
+        ("8 stages, window", window()),
     ]
 }
 
