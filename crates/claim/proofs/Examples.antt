@@ -126,6 +126,11 @@ arrives-last : Demand2 → (r : Answer) (l k : List ℕ) → Arrived below 1 2 (
 unfolding arrivalTests planTests planPoints maskCells _+ᵖ_
 arrives-last D r l k p = D .arriving below 1 2 (1 ∷ []) (0 ∷ 0 ∷ []) (0 ∷ 0 ∷ []) r l k p refl .last 0 1 (omega arith) refl
 
+-- and 0 is answered
+arrival-answers : Demand2 → (r : Answer) (l k : List ℕ) → Arrived below 1 2 (1 ∷ []) (0 ∷ 0 ∷ []) (0 ∷ 0 ∷ []) r l k → stated r ≡ result 0
+unfolding arrivalTests planTests planPoints maskCells _+ᵖ_
+arrival-answers D r l k p = D .arriving below 1 2 (1 ∷ []) (0 ∷ 0 ∷ []) (0 ∷ 0 ∷ []) r l k p refl .answer
+
 -- row 2 of five lies farther than 1 from both ends: it is row 3 of before
 row-moved : Demand2 → (r : Answer) (l k : List ℕ) → Arrived below 1 5 (0 ∷ []) (replicate 5 0) (0 ∷ 0 ∷ 0 ∷ 1 ∷ 0 ∷ []) r l k → getD k 2 0 ≡ 1
 unfolding arrivalTests planTests planPoints maskCells _+ᵖ_
