@@ -146,9 +146,9 @@ int64_t musq_part(int64_t stages, size_t w, size_t h, const uint8_t *first, size
  * live by the plan's points, is brought up to date. live has its rows 1 to H - 1 afterwards, and then the row. With Y the
  * greatest |y| of the plan's points, its offset included: row r of kept is its row r + 1 of before where r > Y and
  * H - 1 - r > Y, and every other row is worked out from live as it is then. So from two frames of free cells on, if
- * nobody else writes them and the plan stays the same, kept is what musq_dilate gives of live after every call, refused
- * ones among them. A kept frame that was wrong has its rows near both ends right, and the others moved. There is no work
- * image. live and kept must not overlap each other, nor the plan, nor the row. Answers 0.
+ * nobody else writes them and every row arrives with the same plan, W and H, kept is what musq_dilate gives of live after
+ * every call, refused ones among them. A kept frame that was wrong has its rows near both ends right, and the others
+ * moved. There is no work image. live and kept must not overlap each other, nor the plan, nor the row. Answers 0.
  * Grounds: 1, 2, 3, 5, 6, 7, 8, 11, 12 (over live and kept), 15, 13 (over live, kept and the row). */
 int64_t musq_arrive(const uint32_t *plan, size_t n, size_t w, size_t h, const uint8_t *row, size_t row_n, uint8_t *live,
                     size_t live_n, uint8_t *kept, size_t kept_n);
