@@ -54,7 +54,7 @@ pub extern "C" fn musq_sum(a: &[u32], b: &[u32], out: &mut [u32]) -> i64
 pub extern "C" fn musq_load(w: usize, h: usize, frame: &[u8]) -> i64
     ensures { λ r. ⌜ Stands r (λ a. LoadCounted w h (now (frame .entry)) a) ⌝ }
 {
-    numbers::signed(frame_calls::load(w, h, frame))
+    numbers::signed(load_calls::load(w, h, frame))
 }
 
 // Putting a frame into a grid.

@@ -1,24 +1,12 @@
-// The load of a frame, putting a frame into a grid, and the single stage from one image into another: all grounds are tried before the first byte is written.
+// Putting a frame into a grid, and the single stage from one image into another: all grounds are tried before the first byte is written.
 ghost use mathlib.Core.Path.{_≡_};
 ghost use Prim.Native.Nat.{_+_, _≤_};
 ghost use lib.ListN.{length};
-ghost use Rattle.grids.specs.Frame.{free, LoadCounted};
+ghost use Rattle.grids.specs.Frame.{free};
 ghost use Rattle.grids.specs.Grid.{once, written, FramePut, Staged};
 ghost use Rattle.planes.specs.Planes.{planeSize};
 ghost use Rattle.frame_calls.specs.Staging.{StageReady};
 use words::Answer;
-
-// The load: the number of occupied cells in a frame.
-pub fn load(w: usize, h: usize, frame: &[u8]) -> Answer
-    ensures { λ r. ⌜ LoadCounted w h (now (frame .entry)) r ⌝ }
-{
-    let tested = frame_grounds::frame_refusal(w, h, frame);
-    if let Answer::Refused(ground) = tested {
-        return Answer::Refused(ground);
-    }
-    let n = cell_steps::occupied(frame);
-    Answer::Done(n)
-}
 
 // Putting: the frame into the grid of the image, with the rest of the grid free. The grid is cut out of the frame, 15 being no distance.
 pub fn put(w: usize, h: usize, frame: &[u8], image: &mut [u8]) -> Answer

@@ -3,16 +3,16 @@ use mathlib.Core.Path.{_≡_, refl, sym, _∙_, ap, subst}
 use mathlib.Core.Logic.{_↔_, _⊎_, inl, inr, Iff·trans}
 use mathlib.Core.Bool.{Bool, true, false, not, cond, _&&_, _||_}
 use mathlib.Core.List.{List, [], _∷_, _++_, map}
-use Prim.Native.Nat.{ℕ, zero, suc, _+_, _-_, _≤_, _<_}
+use Prim.Native.Nat.{ℕ, zero, suc, _+_, _-_, _≤_, _<_, suc-le-suc}
 use native.Mathlib.Omega.{arith}
-use native.Mathlib.Nat.{le-refl}
+use native.Mathlib.Nat.{le-refl, le-trans, le-suc}
 use native.Mathlib.Decide.{ℕ-discrete, decLe}
 use native.Mathlib.Numerals.{add-one}
 use lib.Dec.{T, T-not, not-T}
 use lib.ListN.{length, getD, drop, length-drop, drop-of-length-le}
 use lib.Seq.{drop-cons}
 use Rattle.plane.specs.Lists.{In, any, all, keep, anyNext, flat, countFrom, upTo}
-use Rattle.plane.proofs.Tests.{T-and, T-or, not-or}
+use Rattle.plane.proofs.Tests.{T-and, T-or, not-or, cond-ind}
 
 -- ---- membership
 
@@ -82,6 +82,12 @@ module _ {A : Type 0} where
       go : (b : Bool) → f x ≡ b → In (keep f xs) a ↔ (In xs a × T (f a)) → In (cond b (x ∷ keep f xs) (keep f xs)) a ↔ (((a ≡ x) ⊎ In xs a) × T (f a))
       go true q ih = (to q (ih .0), λ h. pick q (ih .1) (h .0) (h .1))
       go false q ih = (λ h. let r = ih .0 h in (inr (r .0), r .1), λ h. drop′ q (ih .1) (h .0) (h .1))
+
+  pub length-keep : (f : A → Bool) (xs : List A) → length (keep f xs) ≤ length xs
+  length-keep f [] = le-refl 0
+  length-keep f (x ∷ xs) =
+      let ih = length-keep f xs in
+      cond-ind (f x) (x ∷ keep f xs) (keep f xs) (λ l. length l ≤ suc (length xs)) (λ _. suc-le-suc ih) (λ _. le-trans ih (le-suc (length xs)))
 
   pub any-no : (f : A → Bool) (xs : List A) → ((a : A) → In xs a → T (not (f a))) → T (not (any f xs))
   any-no f [] h = tt

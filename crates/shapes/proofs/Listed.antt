@@ -6,7 +6,6 @@ use mathlib.Core.Bool.{Bool, not, _&&_, _||_}
 use mathlib.Core.List.{List, [], _∷_, map}
 use Prim.Native.Nat.{ℕ, zero, suc, _+_, _*_, _≤_, _<_, zero-le, suc-le-suc}
 use native.Mathlib.Omega.{arith}
-use native.Mathlib.Nat.{le-refl, le-trans, le-suc}
 use native.Mathlib.Numerals.{add-one}
 use lib.Dec.{T, leb, ltb, eqb→eq, eqb-refl, nltb→le, not-T}
 use lib.IntN.{ℤ, pos, negsuc, _+ℤ_, _-ℤ_, +ℤ-idr, +ℤ-negℤ-cancel}
@@ -18,7 +17,7 @@ use Rattle.plane.specs.Point.{Point, Cell, point, _+ᵖ_, negᵖ, _-ᵖ_, _≐_
 use Rattle.plane.proofs.Bits.{packed-below, bits-packed}
 use Rattle.plane.proofs.Extents.{least-le, least-in, span-far}
 use Rattle.plane.proofs.Integer.{≤ℤ-from, +ℤ-less}
-use Rattle.plane.proofs.Member.{any-no, no-any, In-map, In-flat, In-keep, In-any, upTo-In, In-upTo, countFrom-In}
+use Rattle.plane.proofs.Member.{any-no, no-any, In-map, In-flat, In-keep, length-keep, In-any, upTo-In, In-upTo, countFrom-In}
 use Rattle.plane.proofs.Tests.{cond-ind, not-or, not-ltb, not-leb, T-and, same-test}
 use Rattle.words.specs.Word.{rowY, rowColumns, anchorWord, rowWord, anchorKind, rowKind, wrongKind, extraBit}
 use Rattle.words.proofs.Refusals.{Clear}
@@ -112,12 +111,6 @@ map-rising g (y ∷ z ∷ zs) e t =
     let v = subst (λ n. T (not (leb z n))) (sym (e y (inl refl))) (u .0) in
     let first = subst (λ n. T (not (leb n (rowY (g y))))) (sym (e z (inr (inl refl)))) v in
     not-or (notRising (g y) (g z)) (anyNext notRising (map g (z ∷ zs))) .1 (first, map-rising g (z ∷ zs) (λ w h. e w (inr h)) (u .1))
-
-length-keep : (f : ℕ → Bool) (l : List ℕ) → length (keep f l) ≤ length l
-length-keep f [] = le-refl 0
-length-keep f (x ∷ xs) =
-    let ih = length-keep f xs in
-    cond-ind (f x) (x ∷ keep f xs) (keep f xs) (λ l. length l ≤ suc (length xs)) (λ _. suc-le-suc ih) (λ _. le-trans ih (le-suc (length xs)))
 
 some-length : {A : Type 0} (l : List A) (a : A) → In l a → 1 ≤ length l
 some-length [] a h = absurd h

@@ -155,6 +155,10 @@ ground-back CellValue = refl
 ground-back ImageLength = refl
 ground-back RowLength = refl
 
+-- no two grounds share a number
+pub ground-once : (g h : Ground) → numberOf g ≡ numberOf h → g ≡ h
+ground-once g h e = sym (ground-back g) ∙ ap groundOf e ∙ ground-back h
+
 -- a number that a ground may have
 abbrev pub isGround : ℕ → Bool
 isGround n = leb 1 n && leb n 15

@@ -5,8 +5,8 @@ use Rattle.words.specs.Ground.{firstOf, result}
 use Rattle.grids.specs.Frame.{frameTests}
 use Rattle.frame_grounds.proofs.Accepted.{countable}
 use Rattle.words.proofs.Tested.{no-refusal, refused-call}
-use Rattle.frame_calls.proofs.load.Statement.{statement}
-use Rattle.frame_calls.proofs.load.Tie as tie
+use Rattle.load_calls.proofs.load.Statement.{statement}
+use Rattle.load_calls.proofs.load.Tie as tie
 
 -- the start of the call, from behind the frame's tests
 abbrev from-told : tie.After-enum-told → tie.Start
