@@ -99,6 +99,14 @@ int64_t musq_sum(const uint32_t *a, size_t an, const uint32_t *b, size_t bn, uin
  * Grounds: 11, 12, 13. */
 int64_t musq_load(size_t w, size_t h, const uint8_t *frame, size_t frame_n);
 
+/* The load in ten-thousandths: answers the quotient, 0 to 10,000, and sets *remainder, so that
+ *     quotient * W * H + remainder = 10,000 * occupied cells
+ * with the remainder below W x H. The two together are the plain count again, so shares of several frames add up: add
+ * quotient * W * H + remainder of each. A refusal leaves *remainder as it is. remainder is not null, is aligned for
+ * uint32_t, and must not overlap the frame.
+ * Grounds: 11, 12, 13. */
+int64_t musq_share(size_t w, size_t h, const uint8_t *frame, size_t frame_n, uint32_t *remainder);
+
 /* Puts a frame into the grid of an image, with the rest of the grid 0, and answers 0. image must not overlap frame.
  * Grounds: 11, 12, 13, 14. */
 int64_t musq_put(size_t w, size_t h, const uint8_t *frame, size_t frame_n, uint8_t *image, size_t image_n);

@@ -96,6 +96,17 @@ static void expect_none(const char *call, int64_t n, int64_t answer)
     check(call, n == answer && memcmp(first, as_before, IMAGE) == 0 && memcmp(second, as_before, IMAGE) == 0);
 }
 
+/* What stands where no remainder was written. */
+static const uint32_t untouched = 0xa5a5a5a5;
+static uint32_t share[3] = {0xa5a5a5a5, 0xa5a5a5a5, 0xa5a5a5a5};
+
+/* The answer n and the remainder are those expected, and nothing beside it has changed; it is made as it was again. */
+static void expect_share(const char *call, int64_t n, int64_t answer, uint32_t remainder)
+{
+    check(call, n == answer && share[0] == untouched && share[1] == remainder && share[2] == untouched);
+    share[1] = untouched;
+}
+
 /* The answer n is 0, and the grid has these five cells and then free ones; the byte past it is as it was. */
 static void expect_grid(const char *call, int64_t n, const uint8_t *image, const uint8_t *cells)
 {
@@ -119,6 +130,10 @@ static void frames(void)
     expect_none("musq_load, 241", musq_load(241, 1, frame, 3), -MUSQ_FRAME_SIZE);
     expect_none("musq_load, no frame", musq_load(3, 1, NULL, 0), -MUSQ_FRAME_LENGTH);
     expect_none("musq_load, no frame of 0", musq_load(0, 0, NULL, 0), -MUSQ_FRAME_SIZE);
+    expect_share("musq_share", musq_share(3, 1, frame, 3, &share[1]), 6666, 2);
+    expect_share("musq_share, a cell of 165", musq_share(3, 1, first, 3, &share[1]), -MUSQ_CELL_VALUE, untouched);
+    expect_share("musq_share, 0", musq_share(3, 0, frame, 3, &share[1]), -MUSQ_FRAME_SIZE, untouched);
+    expect_share("musq_share, no frame", musq_share(3, 1, NULL, 0, &share[1]), -MUSQ_FRAME_LENGTH, untouched);
     expect_none("musq_put, short", musq_put(3, 1, frame, 3, first, GRID - 1), -MUSQ_IMAGE_LENGTH);
     expect_none("musq_put, no frame", musq_put(3, 1, NULL, 0, first, IMAGE), -MUSQ_FRAME_LENGTH);
     expect_none("musq_put, no image", musq_put(3, 1, frame, 3, NULL, 0), -MUSQ_IMAGE_LENGTH);

@@ -1,4 +1,4 @@
-//! Frames: putting, the load, single stages, whole operations and arriving rows at the
+//! Frames: putting, the load, also in ten-thousandths, single stages, whole operations and arriving rows at the
 //! greatest size, 240 by 240, and stages and operations on small frames; the library beside
 //! OpenCV, leptonica, Rust and plain copies.
 
@@ -18,6 +18,7 @@ mod other;
 mod pictures;
 mod putting;
 mod rust;
+mod share;
 mod small;
 mod stages;
 mod table;
@@ -65,6 +66,7 @@ pub fn run() {
     println!("the library's microseconds, and its time over the others'");
     let puts = putting::run();
     let loads = load::run();
+    let shares = share::run();
     let stages = stages::run();
     let operations = operations::run();
     let (thin_arrivals, thick_arrivals) = arriving::run();
@@ -72,6 +74,7 @@ pub fn run() {
     goals::print(&Rows {
         puts,
         loads,
+        shares,
         stages,
         operations,
         thin_arrivals,

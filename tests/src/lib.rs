@@ -12,4 +12,5 @@ pub mod operations;
 pub mod random;
 pub mod reference;
 pub mod rolling;
+pub mod shares;
 pub mod tally;

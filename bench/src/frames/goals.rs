@@ -10,6 +10,7 @@ use crate::print_goal;
 pub struct Rows {
     pub puts: Vec<Row>,
     pub loads: Vec<Row>,
+    pub shares: Vec<Row>,
     pub stages: Vec<Row>,
     pub operations: Vec<(usize, Row)>,
     pub thin_arrivals: Vec<Row>,
@@ -64,6 +65,7 @@ pub fn print(rows: &Rows) {
     at_most("putting", 1.2, "fill and copy", rows.puts.iter());
     at_most("load", 1.5, "chunks", rows.loads.iter());
     at_most("load", 0.5, "before", rows.loads.iter());
+    at_most("share", 1.2, "load", rows.shares.iter());
     let (thin, thick) = (rows.thin_arrivals.iter(), rows.thick_arrivals.iter());
     at_most("arrivals, thin,", 0.7, "dilate", thin);
     at_most("arrivals, thick,", 1.0, "dilate", thick);

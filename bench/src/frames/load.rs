@@ -6,14 +6,14 @@ use super::table::{Engine, Lent, Pace, Row, Table};
 use super::{pictures, rust, GREATEST};
 use std::hint::black_box;
 
-const PACE: Pace = Pace {
+pub const PACE: Pace = Pace {
     rounds: 101,
     times: 32,
     decimals: 2,
 };
 
 /// Names, and how many of 64 cells are occupied.
-const FRAMES: [(&str, usize); 3] = [
+pub const FRAMES: [(&str, usize); 3] = [
     ("few occupied", 1),
     ("half occupied", 32),
     ("all occupied", 64),

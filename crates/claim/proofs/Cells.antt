@@ -1,24 +1,27 @@
 -- What putting, the single stage and the load promise, said of points: a grid with the cells of a picture of 0 and 1 shows the picture's occupied points.
-use mathlib.Core.Path.{_≡_, sym, _∙_, ap, subst}
+use mathlib.Core.Path.{_≡_, refl, sym, _∙_, ap, subst}
 use mathlib.Core.Bool.{Bool, true, false}
 use mathlib.Core.List.{List}
 use Prim.Native.Nat.{ℕ, suc, _+_, _*_, _<_, _≤_, zero-le}
 use native.Mathlib.Omega.{arith}
-use native.Mathlib.Nat.{mul-comm, mul-le-mul-right}
+use native.Mathlib.Nat.{mul-assoc, mul-comm, mul-le-mul-right}
 use lib.Dec.{eqb, eqb→eq, nltb→le}
 use lib.IntN.{pos}
 use lib.ListN.{length, getD, drop, List·getD-append}
-use Rattle.plane.specs.Lists.{In, keep}
+use Rattle.plane.specs.Lists.{In}
 use Rattle.plane.specs.Point.{Point, PointSet, _≐_}
 use Rattle.plane.proofs.Tests.{not-or, un-not}
 use Rattle.words.specs.Ground.{firstOf, stated, result}
 use Rattle.words.specs.Word.{stageMask}
 use Rattle.words.specs.declared.Answer.{Answer}
-use Rattle.words.proofs.Refusals.{clear}
+use Rattle.words.proofs.Refusals.{clear, ground-small}
 use Rattle.masks.specs.Mask.{maskPoints}
-use Rattle.grids.specs.Frame.{free, full, over, frame, occupied, gridSize, shortImage, frameTests, LoadCounted}
+use Rattle.grids.specs.Frame.{free, full, over, frame, occupied, gridSize, shortImage, frameTests, load, LoadCounted}
 use Rattle.grids.specs.Grid.{grid, laid, put, written, putTests, FramePut, stageTests, Staged}
 use Rattle.grids.specs.Image.{cells}
+use Rattle.grids.specs.Share.{TenThousandths, Shared}
+use Rattle.grids.specs.declared.Share.{Share}
+use Rattle.grids.specs.declared.Share.the-variants.{Divided, Refused}
 use Rattle.grids.proofs.Load.{load-points}
 use Rattle.grids.proofs.Pictures.{getD-cells, length-cells}
 use Rattle.grids.proofs.Putting.{frame-binary}
@@ -27,7 +30,7 @@ use Rattle.cleaning.specs.Operation.{Says}
 use Rattle.cleaning.proofs.Plans.{binary}
 use Rattle.cleaning.proofs.Starts.{over-length, over-past}
 use Rattle.cleaning.proofs.Turn.{says}
-use Rattle.claim.specs.Demand2.{GridShows, stageMade}
+use Rattle.claim.specs.Demand2.{GridShows, stageMade, occupiedPoints, ShareShows}
 
 shows : (W H : ℕ) (F : Point → ℕ) (S : PointSet) (i i′ : List ℕ) → Binary F → occupied F ≐ S → gridSize W H ≤ length i
     → (r : Answer) → stated r ≡ result 0 → i′ ≡ written W H (laid W H F) i → GridShows W H S i r i′
@@ -78,9 +81,25 @@ stage-shown erode w W H g i r i′ p e =
     (over-binary erode (maskPoints m) (grid free W H g) b) (made-is erode (maskPoints m) (grid free W H g) b)
     (nltb→le (length i) (gridSize W H) (u .1)) r (p .done e .answer) (p .done e .image ∙ ap (λ l. written W H l i) (once-is erode free W H m g))
 
-pub load-counted : (W H : ℕ) (f : List ℕ) (r : Answer) → LoadCounted W H f r → firstOf (frameTests W H f) ≡ 0
-    → stated r ≡ result (length (keep (λ p. eqb (frame free W H f p) full) (cells W H (λ p. p))))
+-- the load of an accepted frame is the number of its points that are occupied
+load-is : (W H : ℕ) (f : List ℕ) → firstOf (frameTests W H f) ≡ 0 → load f ≡ occupiedPoints W H f
 unfolding frameTests
-load-counted W H f r p e =
+load-is W H f e =
     let c = clear (frameTests W H f) tt e in
-    p .done e ∙ ap result (load-points W H f (eqb→eq (length f) (W * H) (un-not (eqb (length f) (W * H)) (c .1 .0))))
+    load-points W H f (eqb→eq (length f) (W * H) (un-not (eqb (length f) (W * H)) (c .1 .0)))
+
+pub load-counted : (W H : ℕ) (f : List ℕ) (r : Answer) → LoadCounted W H f r → firstOf (frameTests W H f) ≡ 0 → stated r ≡ result (occupiedPoints W H f)
+load-counted W H f r p e = p .done e ∙ ap result (load-is W H f e)
+
+pub share-shown : (W H : ℕ) (f : List ℕ) (a : Share) → Shared W H f a → firstOf (frameTests W H f) ≡ 0 → ShareShows W H (occupiedPoints W H f) a
+share-shown W H f a p e = go a (p .done e)
+  where
+    go : (a : Share) → TenThousandths W H f a → ShareShows W H (occupiedPoints W H f) a
+    go (Divided q r) t = record {
+      quotient = q;
+      remainder = r;
+      answer = refl;
+      whole = ap (λ n. n + r) (mul-assoc q W H) ∙ t .whole ∙ ap (λ n. 10000 * n) (load-is W H f e);
+      below = t .below;
+    }
+    go (Refused g) t = absurd (let l = ground-small g .0 in omega (arith, t .answer))

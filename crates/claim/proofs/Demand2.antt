@@ -28,7 +28,7 @@ use Rattle.cleaning.specs.Cleaning.{Cleaned, operationTests, part}
 use Rattle.cleaning.specs.Operation.{Direct}
 use Rattle.claim.proofs.Arriving.{row-shows}
 use Rattle.claim.specs.Demand2.{ListShows, Demand2}
-use Rattle.claim.proofs.Cells.{put-shown, stage-shown, load-counted}
+use Rattle.claim.proofs.Cells.{put-shown, stage-shown, load-counted, share-shown}
 
 -- a list that is written stands for its points, and so for any set that has these
 shown : (A : List Point) {S : PointSet} (out out′ : List ℕ) (r : Answer) → T (not (outOfRange A)) → In A ≐ S → ListWritten A out r out′ → ListShows S out r out′
@@ -80,5 +80,6 @@ demand2 = record {
   putting = put-shown;
   staging = stage-shown;
   counting = load-counted;
+  sharing = share-shown;
   arriving = λ plan W H row live kept s live′ kept′ a e. row-shows plan W H row live kept e s live′ kept′ a;
 }

@@ -1,9 +1,9 @@
 -- What the demands say on cases, each read off the demand alone: a demand that is loosened, or says another thing, no longer gives them.
-use mathlib.Core.Path.{_≡_, refl, sym, _∙_, ap, subst}
+use mathlib.Core.Path.{_≡_, refl, sym, _∙_, ap, ap₂, subst}
 use mathlib.Core.Logic.{inl, inr, ⊎-elim}
 use mathlib.Core.Bool.{false}
 use mathlib.Core.List.{List, [], _∷_}
-use Prim.Native.Nat.{ℕ, _+_, _≤_, _<_}
+use Prim.Native.Nat.{ℕ, _+_, _*_, _≤_, _<_}
 use native.Mathlib.Omega.{arith}
 use lib.IntN.{pos, natAbs}
 use lib.ListN.{length, take, drop, getD, replicate}
@@ -25,6 +25,9 @@ use Rattle.planning.specs.Planning.{ShapeSet, Planned, PlanWritten}
 use Rattle.grids.specs.Frame.{frameTests, LoadCounted}
 use Rattle.grids.specs.Grid.{once, putTests, FramePut, stageTests, Staged}
 use Rattle.grids.specs.Image.{cells, valueAt}
+use Rattle.grids.specs.Share.{told, Shared}
+use Rattle.grids.specs.declared.Share.{Share}
+use Rattle.grids.specs.declared.Share.the-variants.{Divided}
 use Rattle.cleaning.specs.Cleaning.{part}
 use Rattle.cleaning.specs.Operation.{inTurn, lastGrid}
 use Rattle.cleaning.specs.declared.Operation.the-variants.{Closing}
@@ -57,6 +60,10 @@ unfolding frameTests putTests
 put-refused D r i′ p =
     let d = D .putting 1 1 (2 ∷ []) (replicate 256 7) r i′ p in
     (d .0, d .1 (λ z. let n : _≡_ {A = ℕ} 13 0 = sym (d .0) ∙ z in omega arith))
+
+share-refused : Demand1 → (a : Share) → Shared 1 1 (2 ∷ []) a → told a .0 ≡ 13
+unfolding frameTests
+share-refused D a p = D .sharing 1 1 (2 ∷ []) a p
 
 -- a row of two cells in frames of one column: ground 15, and both frames are as they were
 arrival-refused : Demand1 → (r : Answer) (l k : List ℕ) → Arrived below 1 1 (1 ∷ 0 ∷ []) (0 ∷ []) (1 ∷ []) r l k
@@ -120,6 +127,17 @@ put-right D r i′ p = ⊎-elim
 counts-two : Demand2 → (r : Answer) → LoadCounted 3 1 (1 ∷ 0 ∷ 1 ∷ []) r → stated r ≡ result 2
 unfolding frameTests cells valueAt
 counts-two D r p = D .counting 3 1 (1 ∷ 0 ∷ 1 ∷ []) r p refl
+
+-- 20,000 = 6,666 × 3 + 2
+shares-two : Demand2 → (a : Share) → Shared 3 1 (1 ∷ 0 ∷ 1 ∷ []) a → a ≡ Divided 6666 2
+unfolding frameTests cells valueAt
+shares-two D a p =
+    let s = D .sharing 3 1 (1 ∷ 0 ∷ 1 ∷ []) a p refl in
+    let whole : s .quotient * 3 * 1 + s .remainder ≡ 20000 = s .whole in
+    let below : s .remainder < 3 = s .below in
+    let q : s .quotient ≡ 6666 = omega arith in
+    let r : s .remainder ≡ 2 = omega arith in
+    s .answer ∙ ap₂ Divided q r
 
 -- the points (0, 0) and (0, 1), and frames of one column: the arriving row is the last
 arrives-last : Demand2 → (r : Answer) (l k : List ℕ) → Arrived below 1 2 (1 ∷ []) (0 ∷ 0 ∷ []) (0 ∷ 0 ∷ []) r l k → getD l 1 0 ≡ 1

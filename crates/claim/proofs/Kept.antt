@@ -2,7 +2,7 @@
 use mathlib.Core.Path.{_≡_, refl}
 use mathlib.Core.Logic.{_⊎_, inl, inr}
 use mathlib.Core.List.{List, _++_}
-use Prim.Native.Nat.{ℕ}
+use Prim.Native.Nat.{ℕ, _*_, _/_, _%_}
 use lib.Dec.{T}
 use lib.ListN.{length, drop}
 use Rattle.words.specs.declared.Answer.{Answer}
@@ -11,7 +11,7 @@ use Rattle.cleaning.specs.declared.Operation.{Operation}
 use Rattle.plane.specs.Point.{Point}
 use Rattle.words.specs.Ground.{Test, firstOf, stated, result, Answered}
 use Rattle.words.specs.Word.{stageMask}
-use Rattle.words.proofs.Kept.{known, can-keep}
+use Rattle.words.proofs.Kept.{known, can-promise, can-keep}
 use Rattle.masks.specs.Chain.{Chain, subset, Picked}
 use Rattle.masks.specs.Mask.{stage}
 use Rattle.shapes.specs.Calls.{ListWritten, ListAnswered, movingTests, movedPoints, joiningTests, joinedPoints, summingTests, summedPoints, turningTests}
@@ -22,6 +22,10 @@ use Rattle.planning.specs.Planning.{ShapeSet, planningTests, Planned, Unplannab
 use Rattle.planning.proofs.Decided.{can-plan, can-refuse}
 use Rattle.grids.specs.Frame.{frameTests, load, free}
 use Rattle.grids.specs.Grid.{putTests, stageTests, put, once, written, GridWritten, workTests}
+use Rattle.grids.specs.Share.{told, TenThousandths}
+use Rattle.grids.specs.declared.Share.the-variants as shares
+use Rattle.grids.specs.declared.Share.the-variants.{Divided}
+use Rattle.grids.proofs.Shares.{can-share}
 use Rattle.cleaning.specs.Cleaning.{operationTests, Ran, Cleaned}
 use Rattle.cleaning.proofs.Kept.{can-clean}
 use Rattle.rolling.proofs.Possible.{possible}
@@ -73,6 +77,10 @@ kept = record {
   planning = plan-kept;
   counting = λ W H f.
       let q = can-keep {S = Unit {0}} (frameTests W H f) tt tt (λ _. Unit {0}) (λ r _. stated r ≡ result (load f)) tt (λ _. (Done (load f), tt, refl)) in
+      (q .0, q .2);
+  sharing = λ W H f.
+      let q = can-promise {S = Unit {0}} (λ a k. told a ≡ (k, 0, 0)) shares.Refused (λ _. refl) (frameTests W H f) tt tt (λ _. Unit {0})
+      (λ a _. TenThousandths W H f a) tt (λ z. (Divided (10000 * load f / (W * H)) (10000 * load f % (W * H)), tt, can-share W H f z)) in
       (q .0, q .2);
   putting = λ W H f i. grid-kept (putTests W H f i) W H (put W H f) i tt;
   staging = λ erode w W H g i. grid-kept (stageTests w W H g i) W H (once erode free W H (stageMask w) g) i tt;

@@ -13,6 +13,8 @@ use Rattle.shapes.specs.Calls.{Moved, movingTests, Joined, joiningTests, Summed
 use Rattle.planning.specs.Planning.{ShapeSet, member, planningTests, Planned}
 use Rattle.grids.specs.Frame.{frameTests, LoadCounted}
 use Rattle.grids.specs.Grid.{putTests, FramePut, stageTests, Staged}
+use Rattle.grids.specs.Share.{told, Shared}
+use Rattle.grids.specs.declared.Share.{Share}
 use Rattle.cleaning.specs.Cleaning.{operationTests, Cleaned}
 use Rattle.cleaning.specs.declared.Operation.{Operation}
 use Rattle.rolling.specs.Rolling.{arrivalTests, Arrived}
@@ -38,6 +40,7 @@ pub record Demand1 : Type 0 where
   pub planning : (ws out : List ℕ) (r : Answer) (out′ : List ℕ) → Planned ws out r out′
       → First (planningTests ws out) r (out′ ≡ out) ⊎ NoChain ws out r out′
   pub counting : (W H : ℕ) (f : List ℕ) (r : Answer) → LoadCounted W H f r → stated r .0 ≡ firstOf (frameTests W H f)
+  pub sharing : (W H : ℕ) (f : List ℕ) (a : Share) → Shared W H f a → told a .0 ≡ firstOf (frameTests W H f)
   pub putting : (W H : ℕ) (f i : List ℕ) (r : Answer) (i′ : List ℕ) → FramePut W H f i r i′ → First (putTests W H f i) r (i′ ≡ i)
   pub staging : (erode : Bool) (w W H : ℕ) (g i : List ℕ) (r : Answer) (i′ : List ℕ) → Staged erode w W H g i r i′ → First (stageTests w W H g i) r (i′ ≡ i)
   pub cleaning : (op : Operation) (plan : List ℕ) (W H : ℕ) (f i j : List ℕ) (r : Answer) (i′ j′ : List ℕ)

@@ -1,6 +1,6 @@
 -- The owner's demand 2: sums, dilation, erosion, opening and closing are those of Minkowski's definitions on the plane, cut to the frame only at the end;
 -- shape and plan lists are read and written exactly as laid out. The layouts themselves are shapePoints, planPoints, listed and planWords of shapes. The single
--- stage, putting, the load and an arriving row are what the plane says of the grid or frame that they read.
+-- stage, putting, the load, also in ten-thousandths, and an arriving row are what the plane says of the grid or frame that they read.
 use mathlib.Core.Path.{_≡_}
 use mathlib.Core.Logic.{_⊎_}
 use mathlib.Core.Bool.{Bool, true, false}
@@ -24,6 +24,9 @@ use Rattle.planning.specs.Planning.{ShapeSet}
 use Rattle.grids.specs.Frame.{free, full, frame, occupied, gridSize, frameTests, LoadCounted}
 use Rattle.grids.specs.Grid.{grid, putTests, FramePut, stageTests, Staged}
 use Rattle.grids.specs.Image.{cells}
+use Rattle.grids.specs.Share.{Shared}
+use Rattle.grids.specs.declared.Share.{Share}
+use Rattle.grids.specs.declared.Share.the-variants.{Divided}
 use Rattle.cleaning.specs.Operation.{Says, Direct}
 use Rattle.cleaning.specs.Cleaning.{operationTests, part, Cleaned}
 use Rattle.cleaning.specs.declared.Operation.{Operation}
@@ -48,6 +51,19 @@ pub record GridShows (W H : ℕ) (S : PointSet) (i : List ℕ) (r : Answer) (i�
 abbrev pub stageMade : Bool → PointSet → PointSet → PointSet
 stageMade true X A = erosion X A
 stageMade false X A = dilation X A
+
+-- the number of the frame's points that are occupied
+abbrev pub occupiedPoints : ℕ → ℕ → List ℕ → ℕ
+occupiedPoints W H f = length (keep (λ p. eqb (frame free W H f p) full) (cells W H (λ p. p)))
+
+-- n of W × H cells in ten-thousandths, as document 02 has it: a quotient and a remainder are answered, quotient × W × H + remainder = 10,000 × n, and the
+-- remainder is below W × H
+pub record ShareShows (W H n : ℕ) (a : Share) : Type 0 where
+  pub quotient : ℕ
+  pub remainder : ℕ
+  pub answer : a ≡ Divided quotient remainder
+  pub whole : quotient * W * H + remainder ≡ 10000 * n
+  pub below : remainder < W * H
 
 -- row r lies farther from row 0, and from the last of H rows, than each point of A from its row
 abbrev pub Farther : PointSet → ℕ → ℕ → Type 0
@@ -85,7 +101,9 @@ pub record Demand2 : Type 0 where
       → GridShows W H (stageMade erode (occupied (grid free W H g)) (In (maskPoints (stageMask w)))) i r i′
   -- the load is the number of the frame's points that are occupied
   pub counting : (W H : ℕ) (f : List ℕ) (r : Answer) → LoadCounted W H f r → firstOf (frameTests W H f) ≡ 0
-      → stated r ≡ result (length (keep (λ p. eqb (frame free W H f p) full) (cells W H (λ p. p))))
+      → stated r ≡ result (occupiedPoints W H f)
+  -- and in ten-thousandths it is that number's
+  pub sharing : (W H : ℕ) (f : List ℕ) (a : Share) → Shared W H f a → firstOf (frameTests W H f) ≡ 0 → ShareShows W H (occupiedPoints W H f) a
   -- an arriving row: what both frames show then
   pub arriving : (plan : List ℕ) (W H : ℕ) (row live kept : List ℕ) (s : Answer) (live′ kept′ : List ℕ) → Arrived plan W H row live kept s live′ kept′
       → firstOf (arrivalTests plan W H row live kept) ≡ 0 → RowShows (In (planPoints plan)) W H row live kept s live′ kept′

@@ -13,6 +13,8 @@ use Rattle.shapes.specs.Calls.{Moved, Joined, Summed, TurnedBack}
 use Rattle.planning.specs.Planning.{ShapeSet, member, permitted, planningTests, Planned}
 use Rattle.grids.specs.Frame.{LoadCounted}
 use Rattle.grids.specs.Grid.{FramePut, Staged}
+use Rattle.grids.specs.Share.{Shared}
+use Rattle.grids.specs.declared.Share.{Share}
 use Rattle.cleaning.specs.Cleaning.{Cleaned}
 use Rattle.cleaning.specs.declared.Operation.{Operation}
 use Rattle.rolling.specs.Rolling.{Arrived}
@@ -26,6 +28,7 @@ pub record Kept : Type 0 where
       → (firstOf (planningTests ws out) ≡ 0 → (¬ Chain member (ShapeSet ws)) ⊎ ((d : Point) × (ms : List ℕ) × Picked permitted (ShapeSet ws) d ms))
       → (r : Answer) × (out′ : List ℕ) × Planned ws out r out′
   pub counting : (W H : ℕ) (f : List ℕ) → (r : Answer) × LoadCounted W H f r
+  pub sharing : (W H : ℕ) (f : List ℕ) → (a : Share) × Shared W H f a
   pub putting : (W H : ℕ) (f i : List ℕ) → (r : Answer) × (i′ : List ℕ) × FramePut W H f i r i′
   pub staging : (erode : Bool) (w W H : ℕ) (g i : List ℕ) → (r : Answer) × (i′ : List ℕ) × Staged erode w W H g i r i′
   pub cleaning : (op : Operation) (plan : List ℕ) (W H : ℕ) (f i j : List ℕ)

@@ -4,9 +4,10 @@ ghost use Rattle.shapes.specs.Calls.{Moved, Joined, Summed, TurnedBack};
 ghost use Rattle.planning.specs.Planning.{Planned};
 ghost use Rattle.grids.specs.Frame.{LoadCounted};
 ghost use Rattle.grids.specs.Grid.{FramePut, Staged};
+ghost use Rattle.grids.specs.Share.{Shared};
 ghost use Rattle.cleaning.specs.declared.Operation.the-variants.{Dilation, Erosion, Opening, Closing};
 ghost use Rattle.cleaning.specs.Cleaning.{Cleaned};
-ghost use Rattle.numbers.specs.Numbers.{Stands, erodes, PartFound};
+ghost use Rattle.numbers.specs.Numbers.{Stands, ShareStands, erodes, PartFound};
 ghost use Rattle.rolling.specs.Rolling.{Arrived};
 
 // Planning a shape.
@@ -55,6 +56,14 @@ pub extern "C" fn musq_load(w: usize, h: usize, frame: &[u8]) -> i64
     ensures { λ r. ⌜ Stands r (λ a. LoadCounted w h (now (frame .entry)) a) ⌝ }
 {
     numbers::signed(load_calls::load(w, h, frame))
+}
+
+// The load of a frame in ten-thousandths: the quotient is answered, and the remainder goes to a number that a refusal leaves as it is.
+#[no_mangle]
+pub extern "C" fn musq_share(w: usize, h: usize, frame: &[u8], remainder: &mut u32) -> i64
+    ensures { λ r. ⌜ ShareStands r (now (remainder .entry)) (now (remainder .exit)) (λ a. Shared w h (now (frame .entry)) a) ⌝ }
+{
+    numbers::share_of(load_calls::share(w, h, frame), remainder)
 }
 
 // Putting a frame into a grid.

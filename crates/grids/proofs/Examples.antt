@@ -1,17 +1,24 @@
--- Worked cases of frames and grids: where the bounds lie, which ground comes first, and what the load, putting and the single stage give.
-use mathlib.Core.Path.{_≡_, refl, ap}
+-- Worked cases of frames and grids: where the bounds lie, which ground comes first, and what the load, also in ten-thousandths, putting and the single stage
+-- give.
+use mathlib.Core.Path.{_≡_, refl, ap, ap₂}
 use mathlib.Core.Bool.{true, false}
 use mathlib.Core.List.{List, [], _∷_, _++_}
-use Prim.Native.Nat.{ℕ}
+use Prim.Native.Nat.{ℕ, _+_, _*_, _<_}
 use native.Mathlib.Omega.{arith}
 use lib.ListN.{take, drop, replicate}
 use Rattle.plane.specs.Point.{_+ᵖ_, negᵖ}
 use Rattle.words.specs.Ground.{firstOf, stated, result, refusal}
 use Rattle.words.specs.declared.Answer.{Answer}
+use Rattle.words.specs.declared.Ground.the-variants.{CellValue}
+use Rattle.words.proofs.Refusals.{ground-small}
 use Rattle.masks.specs.Mask.{maskCells, stage}
 use Rattle.grids.specs.Frame.{frameTests, load, free, full, LoadCounted}
 use Rattle.grids.specs.Grid.{putTests, workTests, stageTests, put, once, FramePut, Staged}
 use Rattle.grids.specs.Image.{cells, valueAt}
+use Rattle.grids.specs.Share.{told, quotient, remainder, TenThousandths, Shared}
+use Rattle.grids.specs.declared.Share.{Share}
+use Rattle.grids.specs.declared.Share.the-variants as shares
+use Rattle.grids.specs.declared.Share.the-variants.{Divided}
 
 -- ---- grounds
 
@@ -195,3 +202,40 @@ stages-erosion r i′ p = ap (take 17) (p .done refl .image)
 stages-not : (r : Answer) (i′ : List ℕ) → Staged true 0x50000003 1 1 (2 ∷ []) (replicate 256 7) r i′ → (stated r ≡ refusal 13) × (i′ ≡ replicate 256 7)
 unfolding stageTests stage
 stages-not r i′ p = p .refused (λ e. let n : _≡_ {A = ℕ} 13 0 = e in omega arith)
+
+-- ---- the load in ten-thousandths
+
+-- what an answer says, by its case
+share-says : (told (Divided 3 4) ≡ (0, 3, 4)) × (told (shares.Refused CellValue) ≡ (13, 0, 0))
+share-says = (refl, refl)
+
+-- two cells of three: 20,000 = 6,666 × 3 + 2
+share-two : (a : Share) → Shared 3 1 (1 ∷ 0 ∷ 1 ∷ []) a → a ≡ Divided 6666 2
+unfolding frameTests load
+share-two a p = go a (p .done refl)
+  where
+    go : (a : Share) → TenThousandths 3 1 (1 ∷ 0 ∷ 1 ∷ []) a → a ≡ Divided 6666 2
+    go (Divided q r) t =
+        let whole : q * 3 + r ≡ 20000 = t .whole in
+        let below : r < 3 = t .below in
+        let e : q ≡ 6666 = omega arith in
+        let f : r ≡ 2 = omega arith in
+        ap₂ Divided e f
+    go (shares.Refused g) t = absurd (let l = ground-small g .0 in omega (arith, t .answer))
+
+-- all of them: 10,000, and nothing remains
+share-all : (a : Share) → Shared 1 2 (1 ∷ 1 ∷ []) a → quotient a ≡ 10000
+unfolding frameTests load
+share-all a p =
+    let whole : quotient a * 2 + remainder a ≡ 20000 = p .done refl .whole in
+    let below : remainder a < 2 = p .done refl .below in
+    omega arith
+
+-- no cell: 0, which is no refusal
+share-none : (a : Share) → Shared 1 1 (0 ∷ []) a → told a .0 ≡ 0
+unfolding frameTests
+share-none a p = p .done refl .answer
+
+share-not : (a : Share) → Shared 2 1 (1 ∷ 3 ∷ []) a → told a ≡ (13, 0, 0)
+unfolding frameTests
+share-not a p = p .refused (λ e. let n : _≡_ {A = ℕ} 13 0 = e in omega arith) .0

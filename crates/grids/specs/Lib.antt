@@ -1,3 +1,4 @@
 pub mod Image
 pub mod Frame
 pub mod Grid
+pub mod Share

@@ -1,1 +1,8 @@
 // Frames and grids of cells: what they are, the single stage, and what the calls on them promise is in specs/.
+use words::Ground;
+
+// The load in ten-thousandths: a quotient and a remainder, or the ground that refuses the frame.
+pub enum Share {
+    Divided { quotient: u32, remainder: u32 },
+    Refused(Ground),
+}

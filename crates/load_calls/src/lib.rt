@@ -1,5 +1,10 @@
-// The load of a frame: the frame's grounds first, then its occupied cells are counted.
+// The load of a frame, as a number of cells and in ten-thousandths: the frame's grounds first, then its occupied cells are counted.
+ghost use mathlib.Core.Path.{_≡_};
+ghost use Prim.Native.Nat.{_*_, _/_, _%_, _≤_, _<_};
 ghost use Rattle.grids.specs.Frame.{LoadCounted};
+ghost use Rattle.grids.specs.Share.{Shared};
+ghost use Rattle.grids.specs.declared.Share.the-variants.{Divided};
+use grids::Share;
 use words::Answer;
 
 // The load: the number of occupied cells in a frame.
@@ -12,4 +17,28 @@ pub fn load(w: usize, h: usize, frame: &[u8]) -> Answer
     }
     let n = cell_steps::occupied(frame);
     Answer::Done(n)
+}
+
+// Some of all cells, in ten-thousandths.
+fn divided(some: u32, all: u32) -> Share
+    requires { ⌜ (some ≤ 57600) × (0 < all) ⌝ }
+    ensures { λ r. ⌜ r ≡ Divided (10000 * some / all) (10000 * some % all) ⌝ }
+{
+    let n = 10_000 * some;
+    Share::Divided {
+        quotient: n / all,
+        remainder: n % all,
+    }
+}
+
+// The load in ten-thousandths of the frame's cells, of which there are W × H.
+pub fn share(w: usize, h: usize, frame: &[u8]) -> Share
+    ensures { λ r. ⌜ Shared w h (now (frame .entry)) r ⌝ }
+{
+    let tested = frame_grounds::frame_refusal(w, h, frame);
+    if let Answer::Refused(ground) = tested {
+        return Share::Refused(ground);
+    }
+    let n = cell_steps::occupied(frame);
+    divided(n, frame.len() as u32)
 }

@@ -1,5 +1,5 @@
 -- A refusal's number, taken from 0, fits 64 bits and is −N.
-use mathlib.Core.Path.{_≡_, sym, _∙_, ap, subst, refl}
+use mathlib.Core.Path.{_≡_, sym, _∙_, ap, ap₂, subst, refl}
 use Prim.Native.Nat.{ℕ, zero, suc, _≤_}
 use native.Mathlib.Omega.{arith}
 use lib.IntN.{ℤ, pos, negℤ, _-ℤ_, +ℤ-idl, negsuc}
@@ -11,8 +11,13 @@ use Rattle.words.specs.declared.Answer.{Answer}
 use Rattle.words.specs.declared.Answer.the-variants.{Done, Refused}
 use Rattle.words.specs.declared.Ground.{Ground}
 use Rattle.words.specs.Ground.{numberOf, stated}
-use Rattle.numbers.specs.Numbers.{signedOf}
 use Rattle.words.proofs.Refusals.{stated-once, ground-small}
+use Rattle.grids.specs.declared.Share.{Share}
+use Rattle.grids.specs.declared.Share.the-variants as shares
+use Rattle.grids.specs.declared.Share.the-variants.{Divided}
+use Rattle.grids.specs.Share.{told}
+use Rattle.grids.proofs.Shares.{told-once}
+use Rattle.numbers.specs.Numbers.{signedOf, quotientOf, remainderOf}
 
 mag-negated : (n : ℕ) → mag (negℤ (pos n)) ≤ n
 mag-negated zero = omega arith
@@ -46,3 +51,20 @@ said (Refused g) = number-of (numberOf g) (ground-small g .0)
 
 pub signed-once : (r s : Answer) → signedOf r ≡ signedOf s → r ≡ s
 signed-once r s e = stated-once r s (sym (said r) ∙ ap statedOf e ∙ said s)
+
+-- a quotient's number and the number lent for the remainder stand for one share
+toldOf : ℤ → ℕ → ℕ × ℕ × ℕ
+toldOf (pos q) r = (0, q, r)
+toldOf (negsuc n) r = (suc n, 0, 0)
+
+told-of : (a : Share) (before : ℕ) → toldOf (quotientOf a) (remainderOf a before) ≡ told a
+unfolding toldOf
+told-of (Divided q r) before = refl
+told-of (shares.Refused g) before = number (numberOf g) (ground-small g .0)
+  where
+    number : (n : ℕ) → 1 ≤ n → toldOf (negℤ (pos n)) before ≡ (n, 0, 0)
+    number zero h = absurd (omega arith)
+    number (suc n) h = refl
+
+pub share-once : (a b : Share) (before : ℕ) → quotientOf a ≡ quotientOf b → remainderOf a before ≡ remainderOf b before → a ≡ b
+share-once a b before e f = told-once a b (sym (told-of a before) ∙ ap₂ toldOf e f ∙ told-of b before)

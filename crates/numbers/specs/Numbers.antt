@@ -1,5 +1,5 @@
--- What the calls for other languages answer: one signed 64-bit number, the result, or −N for refusal N; what the byte
--- of a single stage says; and which bytes the part is, also where it is asked for with a refusal.
+-- What the calls for other languages answer: one signed 64-bit number, the result, or −N for refusal N; where the remainder
+-- of a load goes; what the byte of a single stage says; and which bytes the part is, also where it is asked for with a refusal.
 use mathlib.Core.Path.{_≡_}
 use mathlib.Core.Bool.{Bool, cond, not}
 use mathlib.Core.List.{List, []}
@@ -10,6 +10,9 @@ use lib.ListN.{length, take}
 use Rattle.words.specs.declared.Answer.{Answer}
 use Rattle.words.specs.declared.Answer.the-variants.{Done, Refused}
 use Rattle.words.specs.Ground.{numberOf}
+use Rattle.grids.specs.declared.Share.{Share}
+use Rattle.grids.specs.declared.Share.the-variants as shares
+use Rattle.grids.specs.declared.Share.the-variants.{Divided}
 use Rattle.cleaning.specs.Cleaning.{part}
 
 abbrev pub signedOf : Answer → ℤ
@@ -20,6 +23,23 @@ signedOf (Refused g) = negℤ (pos (numberOf g))
 pub record Stands (r : ℤ) (P : Answer → Type 0) : Type 0 where
   pub answer : Answer
   pub number : r ≡ signedOf answer
+  pub kept : P answer
+
+-- ---- the load in ten-thousandths: the quotient, or −N for refusal N; the remainder goes to a number that is lent for it, which a refusal leaves as it is
+
+abbrev pub quotientOf : Share → ℤ
+quotientOf (Divided q r) = pos q
+quotientOf (shares.Refused g) = negℤ (pos (numberOf g))
+
+abbrev pub remainderOf : Share → ℕ → ℕ
+remainderOf (Divided q r) before = r
+remainderOf (shares.Refused g) before = before
+
+-- n and the lent number, then after, are those of an answer of which P is promised
+pub record ShareStands (n : ℤ) (before after : ℕ) (P : Share → Type 0) : Type 0 where
+  pub answer : Share
+  pub number : n ≡ quotientOf answer
+  pub rest : after ≡ remainderOf answer before
   pub kept : P answer
 
 -- ---- the single stage

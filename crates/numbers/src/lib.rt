@@ -1,7 +1,9 @@
-// The numbers that calls for other languages answer: an answer as one signed number, and where the part is for the number that an operation answered.
+// The numbers that calls for other languages answer: an answer as one signed number, a share as a number and a remainder, and where the part is for the number
+// that an operation answered.
 ghost use mathlib.Core.Path.{_≡_};
 ghost use lib.IntN.{pos};
-ghost use Rattle.numbers.specs.Numbers.{signedOf, imageOf, PartFound};
+ghost use Rattle.numbers.specs.Numbers.{signedOf, quotientOf, remainderOf, imageOf, PartFound};
+use grids::Share;
 use words::Answer;
 
 // The result, or −N for refusal N.
@@ -11,6 +13,22 @@ pub fn signed(a: Answer) -> i64
     match a {
         Answer::Done(n) => n as i64,
         Answer::Refused(g) => -(words::number(g) as i64),
+    }
+}
+
+// The quotient, or −N for refusal N; the remainder goes to rest, which a refusal leaves as it is.
+pub fn share_of(a: Share, rest: &mut u32) -> i64
+    ensures { λ r. ⌜ (r ≡ quotientOf a) × (now (rest .exit) ≡ remainderOf a (now (rest .entry))) ⌝ }
+{
+    match a {
+        Share::Divided {
+            quotient,
+            remainder,
+        } => {
+            *rest = remainder;
+            quotient as i64
+        }
+        Share::Refused(g) => -(words::number(g) as i64),
     }
 }
 
