@@ -1,6 +1,6 @@
-//! Frames: putting, the load, also in ten-thousandths, single stages, whole operations and arriving rows at the
-//! greatest size, 240 by 240, and stages and operations on small frames; the library beside
-//! OpenCV, leptonica, Rust and plain copies.
+//! Frames: putting, the load, also in ten-thousandths, single stages, whole operations and
+//! arriving rows at the greatest size, 240 by 240, and stages and operations on small
+//! frames; the library beside OpenCV, leptonica, Rust and plain copies.
 
 use goals::Rows;
 use musqerpi_tests::frames::grid_of;

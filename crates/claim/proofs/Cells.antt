@@ -16,12 +16,12 @@ use Rattle.words.specs.Word.{stageMask}
 use Rattle.words.specs.declared.Answer.{Answer}
 use Rattle.words.proofs.Refusals.{clear, ground-small}
 use Rattle.masks.specs.Mask.{maskPoints}
-use Rattle.grids.specs.Frame.{free, full, over, frame, occupied, gridSize, shortImage, frameTests, load, LoadCounted}
+use Rattle.grids.specs.Frame.{free, over, frame, occupied, gridSize, shortImage, frameTests, load, LoadCounted}
 use Rattle.grids.specs.Grid.{grid, laid, put, written, putTests, FramePut, stageTests, Staged}
 use Rattle.grids.specs.Image.{cells}
 use Rattle.grids.specs.Share.{TenThousandths, Shared}
 use Rattle.grids.specs.declared.Share.{Share}
-use Rattle.grids.specs.declared.Share.the-variants.{Divided, Refused}
+use Rattle.grids.specs.declared.Share.the-variants.{Exact, Refused}
 use Rattle.grids.proofs.Load.{load-points}
 use Rattle.grids.proofs.Pictures.{getD-cells, length-cells}
 use Rattle.grids.proofs.Putting.{frame-binary}
@@ -95,7 +95,7 @@ pub share-shown : (W H : ℕ) (f : List ℕ) (a : Share) → Shared W H f a → 
 share-shown W H f a p e = go a (p .done e)
   where
     go : (a : Share) → TenThousandths W H f a → ShareShows W H (occupiedPoints W H f) a
-    go (Divided q r) t = record {
+    go (Exact q r) t = record {
       quotient = q;
       remainder = r;
       answer = refl;

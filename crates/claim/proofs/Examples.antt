@@ -27,7 +27,7 @@ use Rattle.grids.specs.Grid.{once, putTests, FramePut, stageTests, Staged}
 use Rattle.grids.specs.Image.{cells, valueAt}
 use Rattle.grids.specs.Share.{told, Shared}
 use Rattle.grids.specs.declared.Share.{Share}
-use Rattle.grids.specs.declared.Share.the-variants.{Divided}
+use Rattle.grids.specs.declared.Share.the-variants.{Exact}
 use Rattle.cleaning.specs.Cleaning.{part}
 use Rattle.cleaning.specs.Operation.{inTurn, lastGrid}
 use Rattle.cleaning.specs.declared.Operation.the-variants.{Closing}
@@ -129,7 +129,7 @@ unfolding frameTests cells valueAt
 counts-two D r p = D .counting 3 1 (1 ∷ 0 ∷ 1 ∷ []) r p refl
 
 -- 20,000 = 6,666 × 3 + 2
-shares-two : Demand2 → (a : Share) → Shared 3 1 (1 ∷ 0 ∷ 1 ∷ []) a → a ≡ Divided 6666 2
+shares-two : Demand2 → (a : Share) → Shared 3 1 (1 ∷ 0 ∷ 1 ∷ []) a → a ≡ Exact 6666 2
 unfolding frameTests cells valueAt
 shares-two D a p =
     let s = D .sharing 3 1 (1 ∷ 0 ∷ 1 ∷ []) a p refl in
@@ -137,7 +137,7 @@ shares-two D a p =
     let below : s .remainder < 3 = s .below in
     let q : s .quotient ≡ 6666 = omega arith in
     let r : s .remainder ≡ 2 = omega arith in
-    s .answer ∙ ap₂ Divided q r
+    s .answer ∙ ap₂ Exact q r
 
 -- the points (0, 0) and (0, 1), and frames of one column: the arriving row is the last
 arrives-last : Demand2 → (r : Answer) (l k : List ℕ) → Arrived below 1 2 (1 ∷ []) (0 ∷ 0 ∷ []) (0 ∷ 0 ∷ []) r l k → getD l 1 0 ≡ 1

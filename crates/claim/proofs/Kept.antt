@@ -24,7 +24,7 @@ use Rattle.grids.specs.Frame.{frameTests, load, free}
 use Rattle.grids.specs.Grid.{putTests, stageTests, put, once, written, GridWritten, workTests}
 use Rattle.grids.specs.Share.{told, TenThousandths}
 use Rattle.grids.specs.declared.Share.the-variants as shares
-use Rattle.grids.specs.declared.Share.the-variants.{Divided}
+use Rattle.grids.specs.declared.Share.the-variants.{Exact}
 use Rattle.grids.proofs.Shares.{can-share}
 use Rattle.cleaning.specs.Cleaning.{operationTests, Ran, Cleaned}
 use Rattle.cleaning.proofs.Kept.{can-clean}
@@ -80,7 +80,7 @@ kept = record {
       (q .0, q .2);
   sharing = λ W H f.
       let q = can-promise {S = Unit {0}} (λ a k. told a ≡ (k, 0, 0)) shares.Refused (λ _. refl) (frameTests W H f) tt tt (λ _. Unit {0})
-      (λ a _. TenThousandths W H f a) tt (λ z. (Divided (10000 * load f / (W * H)) (10000 * load f % (W * H)), tt, can-share W H f z)) in
+      (λ a _. TenThousandths W H f a) tt (λ z. (Exact (10000 * load f / (W * H)) (10000 * load f % (W * H)), tt, can-share W H f z)) in
       (q .0, q .2);
   putting = λ W H f i. grid-kept (putTests W H f i) W H (put W H f) i tt;
   staging = λ erode w W H g i. grid-kept (stageTests w W H g i) W H (once erode free W H (stageMask w) g) i tt;

@@ -26,7 +26,7 @@ use Rattle.grids.specs.Grid.{grid, putTests, FramePut, stageTests, Staged}
 use Rattle.grids.specs.Image.{cells}
 use Rattle.grids.specs.Share.{Shared}
 use Rattle.grids.specs.declared.Share.{Share}
-use Rattle.grids.specs.declared.Share.the-variants.{Divided}
+use Rattle.grids.specs.declared.Share.the-variants.{Exact}
 use Rattle.cleaning.specs.Operation.{Says, Direct}
 use Rattle.cleaning.specs.Cleaning.{operationTests, part, Cleaned}
 use Rattle.cleaning.specs.declared.Operation.{Operation}
@@ -61,7 +61,7 @@ occupiedPoints W H f = length (keep (λ p. eqb (frame free W H f p) full) (cells
 pub record ShareShows (W H n : ℕ) (a : Share) : Type 0 where
   pub quotient : ℕ
   pub remainder : ℕ
-  pub answer : a ≡ Divided quotient remainder
+  pub answer : a ≡ Exact quotient remainder
   pub whole : quotient * W * H + remainder ≡ 10000 * n
   pub below : remainder < W * H
 

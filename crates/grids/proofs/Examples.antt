@@ -18,7 +18,7 @@ use Rattle.grids.specs.Image.{cells, valueAt}
 use Rattle.grids.specs.Share.{told, quotient, remainder, TenThousandths, Shared}
 use Rattle.grids.specs.declared.Share.{Share}
 use Rattle.grids.specs.declared.Share.the-variants as shares
-use Rattle.grids.specs.declared.Share.the-variants.{Divided}
+use Rattle.grids.specs.declared.Share.the-variants.{Exact}
 
 -- ---- grounds
 
@@ -206,21 +206,21 @@ stages-not r i′ p = p .refused (λ e. let n : _≡_ {A = ℕ} 13 0 = e in omeg
 -- ---- the load in ten-thousandths
 
 -- what an answer says, by its case
-share-says : (told (Divided 3 4) ≡ (0, 3, 4)) × (told (shares.Refused CellValue) ≡ (13, 0, 0))
+share-says : (told (Exact 3 4) ≡ (0, 3, 4)) × (told (shares.Refused CellValue) ≡ (13, 0, 0))
 share-says = (refl, refl)
 
 -- two cells of three: 20,000 = 6,666 × 3 + 2
-share-two : (a : Share) → Shared 3 1 (1 ∷ 0 ∷ 1 ∷ []) a → a ≡ Divided 6666 2
+share-two : (a : Share) → Shared 3 1 (1 ∷ 0 ∷ 1 ∷ []) a → a ≡ Exact 6666 2
 unfolding frameTests load
 share-two a p = go a (p .done refl)
   where
-    go : (a : Share) → TenThousandths 3 1 (1 ∷ 0 ∷ 1 ∷ []) a → a ≡ Divided 6666 2
-    go (Divided q r) t =
+    go : (a : Share) → TenThousandths 3 1 (1 ∷ 0 ∷ 1 ∷ []) a → a ≡ Exact 6666 2
+    go (Exact q r) t =
         let whole : q * 3 + r ≡ 20000 = t .whole in
         let below : r < 3 = t .below in
         let e : q ≡ 6666 = omega arith in
         let f : r ≡ 2 = omega arith in
-        ap₂ Divided e f
+        ap₂ Exact e f
     go (shares.Refused g) t = absurd (let l = ground-small g .0 in omega (arith, t .answer))
 
 -- all of them: 10,000, and nothing remains

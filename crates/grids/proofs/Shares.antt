@@ -17,18 +17,18 @@ use Rattle.words.proofs.Refusals.{clear, ground-small, ground-once}
 use Rattle.grids.specs.Frame.{full, badSide, frameTests, load}
 use Rattle.grids.specs.Share.{told, quotient, remainder, TenThousandths, Shared}
 use Rattle.grids.specs.declared.Share.{Share}
-use Rattle.grids.specs.declared.Share.the-variants.{Divided, Refused}
+use Rattle.grids.specs.declared.Share.the-variants.{Exact, Refused}
 
 -- ---- the equations
 
 -- quotient and remainder by n are those of the division by n, and so there is one of each
-pub divided : (n m q r : ℕ) → q * n + r ≡ m → r < n → (q ≡ m / n) × (r ≡ m % n)
-divided n m q r e l = (sym (digits-div q l) ∙ ap (λ k. k / n) e, sym (digits-mod q l) ∙ ap (λ k. k % n) e)
+pub by-division : (n m q r : ℕ) → q * n + r ≡ m → r < n → (q ≡ m / n) × (r ≡ m % n)
+by-division n m q r e l = (sym (digits-div q l) ∙ ap (λ k. k / n) e, sym (digits-mod q l) ∙ ap (λ k. k % n) e)
 
-pub divided-once : (n m q r q′ r′ : ℕ) → q * n + r ≡ m → r < n → q′ * n + r′ ≡ m → r′ < n → (q ≡ q′) × (r ≡ r′)
-divided-once n m q r q′ r′ e l e′ l′ =
-    let d = divided n m q r e l in
-    let d′ = divided n m q′ r′ e′ l′ in
+pub division-once : (n m q r q′ r′ : ℕ) → q * n + r ≡ m → r < n → q′ * n + r′ ≡ m → r′ < n → (q ≡ q′) × (r ≡ r′)
+division-once n m q r q′ r′ e l e′ l′ =
+    let d = by-division n m q r e l in
+    let d′ = by-division n m q′ r′ e′ l′ in
     (d .0 ∙ sym (d′ .0), d .1 ∙ sym (d′ .1))
 
 -- at most 10,000, where no more cells are occupied than there are: one more would be 10,001 × n
@@ -47,15 +47,15 @@ load-most f = length-keep (λ v. eqb v full) f
 -- ---- the answer
 
 pub told-once : (a b : Share) → told a ≡ told b → a ≡ b
-told-once (Divided q r) (Divided q′ r′) e = ap₂ Divided (ap (λ t. t .1) e) (ap (λ t. t .2) e)
-told-once (Divided q r) (Refused g) e = absurd (let n = ap (λ t. t .0) e in let l = ground-small g .0 in omega arith)
-told-once (Refused g) (Divided q r) e = absurd (let n = ap (λ t. t .0) e in let l = ground-small g .0 in omega arith)
+told-once (Exact q r) (Exact q′ r′) e = ap₂ Exact (ap (λ t. t .1) e) (ap (λ t. t .2) e)
+told-once (Exact q r) (Refused g) e = absurd (let n = ap (λ t. t .0) e in let l = ground-small g .0 in omega arith)
+told-once (Refused g) (Exact q r) e = absurd (let n = ap (λ t. t .0) e in let l = ground-small g .0 in omega arith)
 told-once (Refused g) (Refused h) e = ap Refused (ground-once g h (ap (λ t. t .0) e))
 
 -- what is divided is said by three numbers
 share-told : (W H : ℕ) (f : List ℕ) (a : Share) → TenThousandths W H f a → told a ≡ (0, 10000 * load f / (W * H), 10000 * load f % (W * H))
 share-told W H f a p =
-    let d = divided (W * H) (10000 * load f) (quotient a) (remainder a) (p .whole) (p .below) in
+    let d = by-division (W * H) (10000 * load f) (quotient a) (remainder a) (p .whole) (p .below) in
     tripled (p .answer) (d .0) (d .1)
   where
     tripled : {t : ℕ × ℕ × ℕ} {k q r : ℕ} → t .0 ≡ k → t .1 ≡ q → t .2 ≡ r → t ≡ (k, q, r)
@@ -93,7 +93,7 @@ some-cell W H f z =
 
 -- a division gives what is promised
 pub can-share : (W H : ℕ) (f : List ℕ) → firstOf (frameTests W H f) ≡ 0
-    → TenThousandths W H f (Divided (10000 * load f / (W * H)) (10000 * load f % (W * H)))
+    → TenThousandths W H f (Exact (10000 * load f / (W * H)) (10000 * load f % (W * H)))
 can-share W H f z = record {
   answer = refl;
   whole = div-add-mod' (10000 * load f) (W * H);

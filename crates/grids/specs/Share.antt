@@ -5,11 +5,11 @@ use Prim.Native.Nat.{ℕ, _+_, _*_, _<_}
 use Rattle.words.specs.Ground.{numberOf, Promised}
 use Rattle.grids.specs.Frame.{frameTests, load}
 use Rattle.grids.specs.declared.Share.{Share}
-use Rattle.grids.specs.declared.Share.the-variants.{Divided, Refused}
+use Rattle.grids.specs.declared.Share.the-variants.{Exact, Refused}
 
 -- what an answer says: the number of its ground, 0 where it is no refusal; and its quotient and its remainder, both 0 where it is a refusal
 abbrev pub told : Share → ℕ × ℕ × ℕ
-told (Divided q r) = (0, q, r)
+told (Exact q r) = (0, q, r)
 told (Refused g) = (numberOf g, 0, 0)
 
 abbrev pub quotient : Share → ℕ

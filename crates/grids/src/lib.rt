@@ -3,6 +3,6 @@ use words::Ground;
 
 // The load in ten-thousandths: a quotient and a remainder, or the ground that refuses the frame.
 pub enum Share {
-    Divided { quotient: u32, remainder: u32 },
+    Exact { quotient: u32, remainder: u32 },
     Refused(Ground),
 }

@@ -3,7 +3,7 @@ ghost use mathlib.Core.Path.{_≡_};
 ghost use Prim.Native.Nat.{_*_, _/_, _%_, _≤_, _<_};
 ghost use Rattle.grids.specs.Frame.{LoadCounted};
 ghost use Rattle.grids.specs.Share.{Shared};
-ghost use Rattle.grids.specs.declared.Share.the-variants.{Divided};
+ghost use Rattle.grids.specs.declared.Share.the-variants.{Exact};
 use grids::Share;
 use words::Answer;
 
@@ -20,12 +20,12 @@ pub fn load(w: usize, h: usize, frame: &[u8]) -> Answer
 }
 
 // Some of all cells, in ten-thousandths.
-fn divided(some: u32, all: u32) -> Share
+fn ten_thousandths(some: u32, all: u32) -> Share
     requires { ⌜ (some ≤ 57600) × (0 < all) ⌝ }
-    ensures { λ r. ⌜ r ≡ Divided (10000 * some / all) (10000 * some % all) ⌝ }
+    ensures { λ r. ⌜ r ≡ Exact (10000 * some / all) (10000 * some % all) ⌝ }
 {
     let n = 10_000 * some;
-    Share::Divided {
+    Share::Exact {
         quotient: n / all,
         remainder: n % all,
     }
@@ -40,5 +40,5 @@ pub fn share(w: usize, h: usize, frame: &[u8]) -> Share
         return Share::Refused(ground);
     }
     let n = cell_steps::occupied(frame);
-    divided(n, frame.len() as u32)
+    ten_thousandths(n, frame.len() as u32)
 }

@@ -14,7 +14,7 @@ use Rattle.words.specs.Ground.{numberOf, stated}
 use Rattle.words.proofs.Refusals.{stated-once, ground-small}
 use Rattle.grids.specs.declared.Share.{Share}
 use Rattle.grids.specs.declared.Share.the-variants as shares
-use Rattle.grids.specs.declared.Share.the-variants.{Divided}
+use Rattle.grids.specs.declared.Share.the-variants.{Exact}
 use Rattle.grids.specs.Share.{told}
 use Rattle.grids.proofs.Shares.{told-once}
 use Rattle.numbers.specs.Numbers.{signedOf, quotientOf, remainderOf}
@@ -59,7 +59,7 @@ toldOf (negsuc n) r = (suc n, 0, 0)
 
 told-of : (a : Share) (before : ℕ) → toldOf (quotientOf a) (remainderOf a before) ≡ told a
 unfolding toldOf
-told-of (Divided q r) before = refl
+told-of (Exact q r) before = refl
 told-of (shares.Refused g) before = number (numberOf g) (ground-small g .0)
   where
     number : (n : ℕ) → 1 ≤ n → toldOf (negℤ (pos n)) before ≡ (n, 0, 0)

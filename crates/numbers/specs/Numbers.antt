@@ -12,7 +12,7 @@ use Rattle.words.specs.declared.Answer.the-variants.{Done, Refused}
 use Rattle.words.specs.Ground.{numberOf}
 use Rattle.grids.specs.declared.Share.{Share}
 use Rattle.grids.specs.declared.Share.the-variants as shares
-use Rattle.grids.specs.declared.Share.the-variants.{Divided}
+use Rattle.grids.specs.declared.Share.the-variants.{Exact}
 use Rattle.cleaning.specs.Cleaning.{part}
 
 abbrev pub signedOf : Answer → ℤ
@@ -28,11 +28,11 @@ pub record Stands (r : ℤ) (P : Answer → Type 0) : Type 0 where
 -- ---- the load in ten-thousandths: the quotient, or −N for refusal N; the remainder goes to a number that is lent for it, which a refusal leaves as it is
 
 abbrev pub quotientOf : Share → ℤ
-quotientOf (Divided q r) = pos q
+quotientOf (Exact q r) = pos q
 quotientOf (shares.Refused g) = negℤ (pos (numberOf g))
 
 abbrev pub remainderOf : Share → ℕ → ℕ
-remainderOf (Divided q r) before = r
+remainderOf (Exact q r) before = r
 remainderOf (shares.Refused g) before = before
 
 -- n and the lent number, then after, are those of an answer of which P is promised

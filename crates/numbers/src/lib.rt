@@ -21,7 +21,7 @@ pub fn share_of(a: Share, rest: &mut u32) -> i64
     ensures { λ r. ⌜ (r ≡ quotientOf a) × (now (rest .exit) ≡ remainderOf a (now (rest .entry))) ⌝ }
 {
     match a {
-        Share::Divided {
+        Share::Exact {
             quotient,
             remainder,
         } => {

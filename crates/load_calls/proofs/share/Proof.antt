@@ -1,6 +1,6 @@
 -- A refused frame is refused; else its occupied cells are counted, and 10,000 times as many divided by all.
 use borrow.Author.Needs.{needs}
-use mathlib.Core.Path.{_≡_, refl, sym, _∙_, ap, ap₂, subst}
+use mathlib.Core.Path.{_≡_, refl, sym, _∙_, ap₂, subst}
 use native.Mathlib.Omega.{arith}
 use Prim.Native.Nat.{_*_, _/_, _%_, _≤_}
 use lib.ListN.{length}
@@ -9,7 +9,7 @@ use Rattle.words.proofs.Refusals.{promised-done}
 use Rattle.words.proofs.Tested.{no-refusal, refused-call}
 use Rattle.grids.specs.Frame.{frameTests, load}
 use Rattle.grids.specs.Share.{TenThousandths}
-use Rattle.grids.specs.declared.Share.the-variants.{Divided}
+use Rattle.grids.specs.declared.Share.the-variants.{Exact}
 use Rattle.grids.proofs.Shares.{load-most, some-cell, can-share}
 use Rattle.frame_grounds.proofs.Accepted.{size-passes, frame-length}
 use Rattle.frame_grounds.proofs.Sides.{few-cells}
@@ -55,11 +55,11 @@ enum-told c = search needs
 occupied-requires : tie.Need-occupied-requires
 occupied-requires c κs = search needs
 
-cast-divided : tie.Need-cast-divided
-cast-divided c = record { fits = (let l = few (c .before) in omega arith) }
+cast-ten-thousandths : tie.Need-cast-ten-thousandths
+cast-ten-thousandths c = record { fits = (let l = few (c .before) in omega arith) }
 
-divided-requires : tie.Need-divided-requires
-divided-requires c κs =
+ten-thousandths-requires : tie.Need-ten-thousandths-requires
+ten-thousandths-requires c κs =
     let a = from-told (c .before) .args in
     let l = few (c .before) in
     let m = load-most (a .frame .now) in
@@ -72,8 +72,8 @@ returns-2 c =
     let a = from-told (d .before) .args in
     let f = a .frame .now in
     let z = accepted (d .before) in
-    let e : c .divided .result ≡ Divided (10000 * load f / (a .w * a .h)) (10000 * load f % (a .w * a .h)) =
-    c .divided .ensures ∙ ap₂ (λ k n. Divided (10000 * k / n) (10000 * k % n)) (counted d) (size (d .before)) in
+    let e : c .ten-thousandths .result ≡ Exact (10000 * load f / (a .w * a .h)) (10000 * load f % (a .w * a .h)) =
+    c .ten-thousandths .ensures ∙ ap₂ (λ k n. Exact (10000 * k / n) (10000 * k % n)) (counted d) (size (d .before)) in
     promised-done (frameTests (a .w) (a .h) f) z (subst (TenThousandths (a .w) (a .h) f) (sym e) (can-share (a .w) (a .h) f z))
 
 pub share-spec : {M : Type 1} → statement M
@@ -85,6 +85,6 @@ share-spec =
     returns
     enum-told
     occupied-requires
-    cast-divided
-    divided-requires
+    cast-ten-thousandths
+    ten-thousandths-requires
     returns-2)
