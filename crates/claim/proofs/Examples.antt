@@ -134,9 +134,18 @@ unfolding frameTests cells valueAt
 shares-two D a p =
     let s = D .sharing 3 1 (1 ∷ 0 ∷ 1 ∷ []) a p refl in
     let whole : s .quotient * 3 * 1 + s .remainder ≡ 20000 = s .whole in
-    let below : s .remainder < 3 = s .below in
-    let q : s .quotient ≡ 6666 = omega arith in
-    let r : s .remainder ≡ 2 = omega arith in
+    let q : s .quotient ≡ 6666 = omega (arith, s .below) in
+    let r : s .remainder ≡ 2 = omega (arith, s .below) in
+    s .answer ∙ ap₂ Exact q r
+
+-- both of two cells: 10,000, and nothing remains; 9,999 with 2 for the remainder would close as well
+shares-all : Demand2 → (a : Share) → Shared 1 2 (1 ∷ 1 ∷ []) a → a ≡ Exact 10000 0
+unfolding frameTests cells valueAt
+shares-all D a p =
+    let s = D .sharing 1 2 (1 ∷ 1 ∷ []) a p refl in
+    let whole : s .quotient * 1 * 2 + s .remainder ≡ 20000 = s .whole in
+    let q : s .quotient ≡ 10000 = omega (arith, s .below) in
+    let r : s .remainder ≡ 0 = omega (arith, s .below) in
     s .answer ∙ ap₂ Exact q r
 
 -- the points (0, 0) and (0, 1), and frames of one column: the arriving row is the last
