@@ -1,4 +1,3 @@
-pub mod PackBits
-pub mod Grouping
+pub mod GroupParts
 pub mod PackRows
 pub mod Sizing

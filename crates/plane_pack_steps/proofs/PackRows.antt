@@ -22,7 +22,7 @@ use Rattle.planes.proofs.WholeBytes.{one-value}
 use Rattle.planes.proofs.Views.{in-both, out-above, out-side, out-under}
 use Rattle.planes.proofs.OnGrids.{low-at, low-size}
 use Rattle.planes.proofs.Sizing.{size-small}
-use Rattle.plane_pack_steps.specs.Groups.{GroupPut, Packable}
+use Rattle.plane_pack_steps.specs.Packing.{GroupPut, Packable}
 
 -- the frame f of W columns and H rows, the lowest bit of each cell, where the plane counts (x, y)
 abbrev pub framed : ℕ → ℕ → ℕ → List ℕ → ℕ → ℕ → ℕ

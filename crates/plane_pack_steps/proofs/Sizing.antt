@@ -8,7 +8,7 @@ use lib.ListN.{length}
 use Rattle.plane.proofs.Tests.{T-and}
 use Rattle.ranges.proofs.Sizing.{four, holds}
 use Rattle.planes.specs.Planes.{planeSize, planeSides, packFits}
-use Rattle.plane_pack_steps.specs.Groups.{Packable}
+use Rattle.plane_pack_steps.specs.Packing.{Packable}
 
 pub pack-says : (v w h C R : ℕ) (f d : List ℕ) → packFits v w h C R (length f) (length d) ≡ true → Packable v w h C R f d
 pack-says v w h C R f d e =

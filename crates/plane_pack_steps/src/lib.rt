@@ -1,9 +1,9 @@
 // A frame packed into a plane, eight rows at a time, the lowest bit of each cell: pack.
-mod groups;
-
 ghost use mathlib.Core.Path.{_≡_};
+ghost use Prim.Native.Nat.{_+_, _*_, _≤_, min};
+ghost use lib.ListN.{length};
 ghost use Rattle.planes.specs.Planes.{packFits, FramePacked, Packed};
-ghost use Rattle.plane_pack_steps.specs.Groups.{Packable};
+ghost use Rattle.plane_pack_steps.specs.Packing.{GroupPut, Packable};
 
 // Whether w columns and h rows in n bytes go into a plane of gw columns and gh rows in k bytes.
 fn pack_fits(w: usize, h: usize, gw: usize, gh: usize, outside: u8, n: usize, k: usize) -> bool
@@ -24,6 +24,25 @@ fn pack_fits(w: usize, h: usize, gw: usize, gh: usize, outside: u8, n: usize, k:
     ((gh + 7) / 8 + 2) * (gw + 2) + 2 <= k
 }
 
+// How many rows a group has of which a rows are left.
+fn rows(a: usize) -> usize
+    ensures { λ r. ⌜ r ≡ min a 8 ⌝ }
+{
+    if a < 8 {
+        return a;
+    }
+    8
+}
+
+// The next group, of which a rows are left: cells of f from q on, into the bytes of dst from p on, with the bits of outside above them.
+fn next(f: &[u8], dst: &mut [u8], w: usize, a: usize, p: usize, q: usize, outside: u8)
+    requires { ⌜ (w ≤ 65535) × (p + w ≤ length (now dst)) × (q + min a 8 * w ≤ length (now f)) ⌝ }
+    ensures { λ _. ⌜ GroupPut w a p q outside (now (f .entry)) (now (dst .entry)) (now (dst .exit)) ⌝ }
+{
+    let r = rows(a);
+    plane_group_steps::group(&mut dst[p..p + w], &f[q..q + r * w], w, r, outside);
+}
+
 // The value outside everywhere, and then group after group of eight rows.
 fn fill(f: &[u8], dst: &mut [u8], w: usize, h: usize, gw: usize, gh: usize, outside: u8)
     requires { ⌜ Packable outside w h gw gh (now f) (now dst) ⌝ }
@@ -37,7 +56,7 @@ fn fill(f: &[u8], dst: &mut [u8], w: usize, h: usize, gw: usize, gh: usize, outs
     let mut q: usize = 0;
     let mut y: usize = 0;
     while y < h {
-        groups::next(f, dst, w, h - y, p, q, v);
+        next(f, dst, w, h - y, p, q, v);
         p += s;
         q += 8 * w;
         y += 8;

@@ -59,8 +59,9 @@ sub-next c = search needs
 
 next-requires : tie.Need-next-requires Inv-loop μ-loop
 next-requires c κs =
-    let g = group-fits (c .before .before .before .before .before .before .before .before .before .pre) (c .before .before .loop .y) (omega arith) in
-    (omega arith, omega arith)
+    let k = c .before .before .before .before .before .before .before .before .before .pre in
+    let g = group-fits k (c .before .before .loop .y) (omega arith) in
+    (omega (arith, k .wide, k .columns), omega arith, omega arith)
 
 add-p-2 : tie.Need-add-p-2 Inv-loop μ-loop
 add-p-2 c =

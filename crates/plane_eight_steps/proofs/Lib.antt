@@ -1,0 +1,3 @@
+pub mod EightBits
+pub mod Halves
+pub mod Fits

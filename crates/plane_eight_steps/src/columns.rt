@@ -1,0 +1,57 @@
+// Eight rows of cells put into one row of bytes, in one pass.
+ghost use mathlib.Core.Path.{_≡_};
+ghost use Prim.Native.Nat.{_+_, _*_, _%_, _≤_};
+ghost use lib.ListN.{length, getD};
+ghost use Rattle.planes.specs.Bytes.{Bitted};
+ghost use Rattle.plane_eight_steps.specs.Eights.{Four, Eight, eightBit};
+
+// The lowest bits of four cells, the first one's lowest.
+fn four(a: u8, b: u8, c: u8, d: u8) -> u8
+    ensures { λ r. ⌜ Four a b c d r ⌝ }
+{
+    ((d % 2 * 2 + c % 2) * 2 + b % 2) * 2 + a % 2
+}
+
+// The same of eight.
+fn eight(a: u8, b: u8, c: u8, d: u8, e: u8, f: u8, g: u8, h: u8) -> u8
+    ensures { λ r. ⌜ Eight a b c d e f g h r ⌝ }
+{
+    four(e, f, g, h) * 16 + four(a, b, c, d)
+}
+
+// Each byte of d becomes eight cells of s, w cells apart.
+fn eights(d: &mut [u8], s: &[u8], w: usize)
+    requires { ⌜ 7 * w + length (now d) ≤ length (now s) ⌝ }
+    ensures { λ _. ⌜ Bitted 0 (length (now (d .entry))) (eightBit (now (s .entry)) w) (now (d .entry)) (now (d .exit)) ⌝ }
+{
+    let mut k = 0;
+    while k < d.len() {
+        d[k] = eight(
+            s[k],
+            s[w + k],
+            s[2 * w + k],
+            s[3 * w + k],
+            s[4 * w + k],
+            s[5 * w + k],
+            s[6 * w + k],
+            s[7 * w + k],
+        );
+        k += 1;
+    }
+}
+
+// The same in two halves, which overlap so that each is a whole number of 16 bytes: no few bytes are left to be done one by one.
+pub(crate) fn halves(d: &mut [u8], s: &[u8], w: usize)
+    requires { ⌜ 7 * w + length (now d) ≤ length (now s) ⌝ }
+    ensures { λ _. ⌜ Bitted 0 (length (now (d .entry))) (eightBit (now (s .entry)) w) (now (d .entry)) (now (d .exit)) ⌝ }
+{
+    let n = d.len();
+    if n < 32 {
+        eights(d, s, w);
+        return;
+    }
+    let h = (n - n / 2 + 15) / 16 * 16;
+    let m = s.len();
+    eights(&mut d[0..h], s, w);
+    eights(&mut d[n - h..n], &s[n - h..m], w);
+}

@@ -1,0 +1,3 @@
+pub mod PackBits
+pub mod Grouping
+pub mod Fits

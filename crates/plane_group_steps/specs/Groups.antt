@@ -1,0 +1,25 @@
+-- Rows of cells put into a run of bytes, eight rows to a byte, the lowest bit of each cell.
+use mathlib.Core.Bool.{Bool, cond, _&&_}
+use mathlib.Core.List.{List}
+use Prim.Native.Nat.{ℕ, _+_, _-_, _*_, _%_, max}
+use lib.Dec.{leb, ltb, eqb}
+use lib.ListN.{length, getD}
+use Rattle.rows.specs.Cells.{bit}
+use Rattle.ranges.specs.Ranges.{Fitted}
+use Rattle.planes.specs.Bytes.{Bitted}
+
+-- bit q of the byte a after the lowest bit of the cell c was put into its bit j, which was 0
+abbrev pub laidBit : ℕ → ℕ → ℕ → ℕ → ℕ
+laidBit a c j q = max (bit a q) (cond (eqb q j) (c % 2) 0)
+
+-- bit q of byte k of r rows of s, w cells a row, with the bits of v above them
+abbrev pub groupBit : List ℕ → ℕ → ℕ → ℕ → ℕ → ℕ → ℕ
+groupBit s w r v k q = cond (ltb q r) (getD s (q * w + k) 0 % 2) (bit v (q - r))
+
+-- r rows of w cells, at most eight of them, are among m and go into n bytes
+abbrev pub groupFits : ℕ → ℕ → ℕ → ℕ → Bool
+groupFits n m w r = leb n w && leb r 8 && leb w 65535 && leb (r * w) m
+
+-- r rows of s were put into all of the bytes d, which then are d′, with the bits of v above them
+abbrev pub RowsGrouped : ℕ → ℕ → ℕ → List ℕ → List ℕ → Bool → List ℕ → Type 0
+RowsGrouped w r v s d b d′ = Fitted (groupFits (length d) (length s) w r) (Bitted 0 (length d) (groupBit s w r v) d d′) d b d′
