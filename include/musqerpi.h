@@ -92,8 +92,17 @@ int64_t musq_join(const uint32_t *a, size_t an, const uint32_t *b, size_t bn, ui
 int64_t musq_sum(const uint32_t *a, size_t an, const uint32_t *b, size_t bn, uint32_t *out, size_t out_n);
 
 /* Frames: W columns and H rows, each 1 to 240, one byte a cell, row 0 first, 0 free and 1 occupied. A grid is the first
- * (W + 15) x (H + 15) bytes of a work image, row by row, x and y from 0. Bytes of an image past its grid are never
- * changed. */
+ * (W + 15) x (H + 15) bytes of a work image, row by row. Bytes of an image past its grid are never changed.
+ *
+ * There are two kinds of grid, by what is around the frame in it and outside it. A call that takes a kind takes a byte:
+ * 0 is the first kind, anything else the second (enum musq_around).
+ *   MUSQ_AROUND_FREE:     x and y count from 0; the rest of the grid is put as 0, and cells outside it are free
+ *   MUSQ_AROUND_OCCUPIED: x and y count from -15, so the byte (y + 15) * (W + 15) + x + 15 is the cell (x, y), x from -15
+ *                         to W - 1, y from -15 to H - 1; the rest of the grid is put as 1, and cells outside it are
+ *                         occupied
+ * No byte of an image tells of which kind its grid is: every call on one grid is given the same kind. Erosion works in
+ * the second kind; dilation, opening and closing in the first. */
+enum musq_around { MUSQ_AROUND_FREE = 0, MUSQ_AROUND_OCCUPIED = 1 };
 
 /* The load: answers the number of occupied cells, and writes nothing.
  * Grounds: 11, 12, 13. */
@@ -107,19 +116,20 @@ int64_t musq_load(size_t w, size_t h, const uint8_t *frame, size_t frame_n);
  * Grounds: 11, 12, 13. */
 int64_t musq_share(size_t w, size_t h, const uint8_t *frame, size_t frame_n, uint32_t *remainder);
 
-/* Puts a frame into the grid of an image, with the rest of the grid 0, and answers 0. image must not overlap frame.
+/* Puts a frame into the grid of an image, of the kind that around says, and answers 0. image must not overlap frame.
  * Grounds: 11, 12, 13, 14. */
-int64_t musq_put(size_t w, size_t h, const uint8_t *frame, size_t frame_n, uint8_t *image, size_t image_n);
+int64_t musq_put(size_t w, size_t h, const uint8_t *frame, size_t frame_n, uint8_t around, uint8_t *image, size_t image_n);
 
 /* Takes the grid of the image from through the single stage of a stage word into the grid of the image to, cut to the
- * grid; cells outside it are free. By dilation if erode is 0, by erosion if it is anything else. Answers 0. to must not
- * overlap from: there is no stage in place.
+ * grid; both are of the kind that around says. By dilation if erode is 0, by erosion if it is anything else. Answers 0.
+ * to must not overlap from: there is no stage in place.
  * Grounds: 2, 3, 7, 11, 13 (over the grid read, as far as its image goes), 14 (over both images). */
-int64_t musq_stage(uint32_t word, uint8_t erode, size_t w, size_t h, const uint8_t *from, size_t from_n, uint8_t *to,
-                   size_t to_n);
+int64_t musq_stage(uint32_t word, uint8_t erode, uint8_t around, size_t w, size_t h, const uint8_t *from, size_t from_n,
+                   uint8_t *to, size_t to_n);
 
-/* The four operations. X is the set of points whose cells are occupied, those outside the frame being free, and A the
- * points of the plan: its offset added to the sum of its stages.
+/* The four operations. X is the set of points whose cells are occupied, and A the points of the plan: its offset added
+ * to the sum of its stages. Cells outside the frame are occupied for erosion, so that a carrier that runs off the edge
+ * stays there, and free for dilation, and for opening and closing in both their halves.
  *   musq_dilate: all sums of a point of X and a point of A
  *   musq_erode:  the points p for which p + a lies in X for every a of A
  *   musq_open:   erosion, and then dilation of what that gives

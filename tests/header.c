@@ -1,79 +1,6 @@
-/* The header against the archive, from C and from C++: answers and refusals of each call by document 01, a null pointer of length 0 in every
+/* The header against the archive, from C and from C++: answers and refusals of each call by documents 01 and 02, a null pointer of length 0 in every
  * place, and a refusal given to the part. Exits with 0 if all are right. */
-#include <stdio.h>
-#include <string.h>
-
-#include "musqerpi.h"
-
-static int wrong;
-
-static void check(const char *call, int right)
-{
-    if (!right) {
-        printf("%s: wrong\n", call);
-        wrong++;
-    }
-}
-
-/* ---- lists */
-
-static const uint32_t row[] = {0x10000000, 0x2000000f};
-static const uint32_t back[] = {0x10000001, 0x20000001}; /* the point (-1, 0) */
-static const uint32_t plan[] = {0x30000002, 0x40000f0f, 0x50000003, 0x50000005};
-static uint32_t out[32];
-
-/* The answer n and the words of out are those expected; the words past the list are as they were, and are made so again. */
-static void expect(const char *call, int64_t n, int64_t answer, const uint32_t *words)
-{
-    uint32_t all[32];
-    memset(all, 0xa5, sizeof all);
-    if (answer > 0)
-        memcpy(all, words, (size_t)answer * sizeof *words);
-    check(call, n == answer && memcmp(out, all, sizeof all) == 0);
-    memset(out, 0xa5, sizeof out);
-}
-
-static void lists(void)
-{
-    static const uint32_t apart[] = {0x10000000, 0x20000009};
-    static const uint32_t two[] = {0x10000000, 0x20000001, 0x20010002}; /* the points (0, 0) and (1, 1) */
-    static const uint32_t moved[] = {0x10000010, 0x200001e0};
-    static const uint32_t longer[] = {0x10000001, 0x2000001f};
-    static const uint32_t taller[] = {0x10000000, 0x2000000f, 0x20010002};
-    static const uint32_t moved_back[] = {0x10000001, 0x2000000f};
-    static const uint32_t twice[] = {0x10000000, 0x2000000f, 0x2001001e};
-    static const uint32_t doubled[] = {0x10000000, 0x2000007f};
-
-    memset(out, 0xa5, sizeof out);
-    expect("musq_plan, short", musq_plan(row, 2, out, 31), -MUSQ_OUTPUT_LENGTH, NULL);
-    expect("musq_plan, no chain", musq_plan(apart, 2, out, 32), -MUSQ_NO_CHAIN, NULL);
-    expect("musq_plan", musq_plan(row, 2, out, 32), 4, plan);
-    expect("musq_shape_of_plan, cut", musq_shape_of_plan(plan, 3, out, 17), -MUSQ_STAGE_COUNT, NULL);
-    expect("musq_shape_of_plan", musq_shape_of_plan(plan, 4, out, 17), 2, row);
-    expect("musq_move, far", musq_move(row, 2, 13, 0, out, 17), -MUSQ_OUT_OF_RANGE, NULL);
-    expect("musq_move", musq_move(row, 2, 5, -1, out, 17), 2, moved);
-    expect("musq_join, short", musq_join(row, 2, back, 2, out, 16), -MUSQ_OUTPUT_LENGTH, NULL);
-    expect("musq_join, a point", musq_join(row, 2, back, 2, out, 17), 2, longer);
-    expect("musq_join, two points", musq_join(row, 2, two, 3, out, 17), 3, taller);
-    expect("musq_join, one list twice", musq_join(row, 2, row, 2, out, 17), 2, row);
-    expect("musq_sum, a plan", musq_sum(row, 2, plan, 4, out, 17), -MUSQ_WORD_KIND, NULL);
-    expect("musq_sum, a point", musq_sum(row, 2, back, 2, out, 17), 2, moved_back);
-    expect("musq_sum, two points", musq_sum(row, 2, two, 3, out, 17), 3, twice);
-    expect("musq_sum, one list twice", musq_sum(row, 2, row, 2, out, 17), 2, doubled);
-
-    expect("musq_plan, no shape", musq_plan(NULL, 0, out, 32), -MUSQ_LIST_LENGTH, NULL);
-    expect("musq_plan, no output", musq_plan(row, 2, NULL, 0), -MUSQ_OUTPUT_LENGTH, NULL);
-    expect("musq_shape_of_plan, no plan", musq_shape_of_plan(NULL, 0, out, 17), -MUSQ_LIST_LENGTH, NULL);
-    expect("musq_shape_of_plan, no output", musq_shape_of_plan(plan, 4, NULL, 0), -MUSQ_OUTPUT_LENGTH, NULL);
-    expect("musq_move, no shape", musq_move(NULL, 0, 1, 1, out, 17), -MUSQ_LIST_LENGTH, NULL);
-    expect("musq_move, no output", musq_move(row, 2, 1, 1, NULL, 0), -MUSQ_OUTPUT_LENGTH, NULL);
-    expect("musq_join, no first", musq_join(NULL, 0, row, 2, out, 17), -MUSQ_LIST_LENGTH, NULL);
-    expect("musq_join, no second", musq_join(row, 2, NULL, 0, out, 17), -MUSQ_LIST_LENGTH, NULL);
-    expect("musq_join, no output", musq_join(row, 2, back, 2, NULL, 0), -MUSQ_OUTPUT_LENGTH, NULL);
-    expect("musq_sum, no first", musq_sum(NULL, 0, row, 2, out, 17), -MUSQ_LIST_LENGTH, NULL);
-    expect("musq_sum, no second", musq_sum(row, 2, NULL, 0, out, 17), -MUSQ_LIST_LENGTH, NULL);
-    expect("musq_sum, no output", musq_sum(row, 2, back, 2, NULL, 0), -MUSQ_OUTPUT_LENGTH, NULL);
-}
+#include "header_lists.h"
 
 /* ---- frames: one row of three columns, 1 0 1, in grids of 18 columns and 16 rows, with a byte past each */
 
@@ -116,6 +43,16 @@ static void expect_grid(const char *call, int64_t n, const uint8_t *image, const
     check(call, n == 0 && memcmp(image, all, IMAGE) == 0);
 }
 
+/* The same of the second kind of grid: its last five cells are these, columns -2 to 2 of row 0, and the others occupied. */
+static void expect_second(const char *call, int64_t n, const uint8_t *image, const uint8_t *cells)
+{
+    uint8_t all[IMAGE];
+    memset(all, 1, sizeof all);
+    memcpy(all + GRID - 5, cells, 5);
+    all[GRID] = 0xa5;
+    check(call, n == 0 && memcmp(image, all, IMAGE) == 0);
+}
+
 static void frames(void)
 {
     static const uint8_t put[] = {1, 0, 1, 0, 0};
@@ -134,23 +71,51 @@ static void frames(void)
     expect_share("musq_share, a cell of 165", musq_share(3, 1, first, 3, &share[1]), -MUSQ_CELL_VALUE, untouched);
     expect_share("musq_share, 0", musq_share(3, 0, frame, 3, &share[1]), -MUSQ_FRAME_SIZE, untouched);
     expect_share("musq_share, no frame", musq_share(3, 1, NULL, 0, &share[1]), -MUSQ_FRAME_LENGTH, untouched);
-    expect_none("musq_put, short", musq_put(3, 1, frame, 3, first, GRID - 1), -MUSQ_IMAGE_LENGTH);
-    expect_none("musq_put, no frame", musq_put(3, 1, NULL, 0, first, IMAGE), -MUSQ_FRAME_LENGTH);
-    expect_none("musq_put, no image", musq_put(3, 1, frame, 3, NULL, 0), -MUSQ_IMAGE_LENGTH);
-    expect_grid("musq_put", musq_put(3, 1, frame, 3, first, IMAGE), first, put);
-    expect_grid("musq_stage, dilation", musq_stage(word, 0, 3, 1, first, IMAGE, second, IMAGE), second, dilated);
+    expect_none("musq_put, short", musq_put(3, 1, frame, 3, MUSQ_AROUND_FREE, first, GRID - 1), -MUSQ_IMAGE_LENGTH);
+    expect_none("musq_put, no frame", musq_put(3, 1, NULL, 0, MUSQ_AROUND_FREE, first, IMAGE), -MUSQ_FRAME_LENGTH);
+    expect_none("musq_put, no image", musq_put(3, 1, frame, 3, MUSQ_AROUND_FREE, NULL, 0), -MUSQ_IMAGE_LENGTH);
+    expect_grid("musq_put", musq_put(3, 1, frame, 3, MUSQ_AROUND_FREE, first, IMAGE), first, put);
+    expect_grid("musq_stage, dilation", musq_stage(word, 0, MUSQ_AROUND_FREE, 3, 1, first, IMAGE, second, IMAGE), second, dilated);
     expect_grid("musq_stage, dilation, what was read", 0, first, put);
     for (i = 0; i < sizeof erode; i++) {
         memset(first, 0xa5, sizeof first);
-        expect_grid("musq_stage, erosion", musq_stage(word, erode[i], 3, 1, second, IMAGE, first, IMAGE), first, eroded);
+        expect_grid("musq_stage, erosion", musq_stage(word, erode[i], MUSQ_AROUND_FREE, 3, 1, second, IMAGE, first, IMAGE), first, eroded);
     }
     expect_grid("musq_stage, erosion, what was read", 0, second, dilated);
 
     memset(first, 0, sizeof first);
     memset(second, 0xa5, sizeof second);
-    check("musq_stage, one cell", musq_stage(0x50000001, 0, 3, 1, first, IMAGE, second, IMAGE) == -MUSQ_STAGE_MASK && second[0] == 0xa5);
-    check("musq_stage, no image read", musq_stage(word, 0, 3, 1, NULL, 0, second, IMAGE) == -MUSQ_IMAGE_LENGTH && second[0] == 0xa5);
-    check("musq_stage, none written", musq_stage(word, 1, 3, 1, first, IMAGE, NULL, 0) == -MUSQ_IMAGE_LENGTH);
+    check("musq_stage, one cell", musq_stage(0x50000001, 0, MUSQ_AROUND_FREE, 3, 1, first, IMAGE, second, IMAGE) == -MUSQ_STAGE_MASK && second[0] == 0xa5);
+    check("musq_stage, no image read", musq_stage(word, 0, MUSQ_AROUND_FREE, 3, 1, NULL, 0, second, IMAGE) == -MUSQ_IMAGE_LENGTH && second[0] == 0xa5);
+    check("musq_stage, none written", musq_stage(word, 1, MUSQ_AROUND_FREE, 3, 1, first, IMAGE, NULL, 0) == -MUSQ_IMAGE_LENGTH);
+}
+
+/* The second kind of grid, by each byte that says so. */
+static void second_kind(void)
+{
+    static const uint8_t put[] = {1, 1, 1, 0, 1};
+    static const uint8_t eroded[] = {1, 1, 0, 0, 1};
+    static const uint8_t longer[] = {0, 0, 0, 0, 1}; /* by columns 0 to 2, twice eroded */
+    static const uint8_t around[] = {MUSQ_AROUND_OCCUPIED, 2, 128, 255};
+    const uint32_t two = 0x50000003, three = 0x50000007;
+    size_t i;
+
+    dirty();
+    expect_none("musq_put, second, short", musq_put(3, 1, frame, 3, MUSQ_AROUND_OCCUPIED, first, GRID - 1), -MUSQ_IMAGE_LENGTH);
+    expect_none("musq_put, second, no frame", musq_put(3, 1, NULL, 0, MUSQ_AROUND_OCCUPIED, first, IMAGE), -MUSQ_FRAME_LENGTH);
+    expect_none("musq_put, second, no image", musq_put(3, 1, frame, 3, MUSQ_AROUND_OCCUPIED, NULL, 0), -MUSQ_IMAGE_LENGTH);
+    for (i = 0; i < sizeof around; i++) {
+        dirty();
+        expect_second("musq_put, second", musq_put(3, 1, frame, 3, around[i], first, IMAGE), first, put);
+        expect_second("musq_stage, second, erosion", musq_stage(two, 1, around[i], 3, 1, first, IMAGE, second, IMAGE), second, eroded);
+        expect_second("musq_stage, second, erosion, what was read", 0, first, put);
+        expect_second("musq_stage, second, erosion again", musq_stage(three, 255, around[i], 3, 1, second, IMAGE, first, IMAGE), first, longer);
+        memset(second, 0xa5, sizeof second);
+        expect_second("musq_stage, second, dilation", musq_stage(three, 0, around[i], 3, 1, first, IMAGE, second, IMAGE), second, eroded);
+        expect_second("musq_stage, second, dilation, what was read", 0, first, longer);
+    }
+    check("musq_stage, second, no image read", musq_stage(two, 0, 1, 3, 1, NULL, 0, second, IMAGE) == -MUSQ_IMAGE_LENGTH);
+    check("musq_stage, second, none written", musq_stage(two, 1, 1, 3, 1, first, IMAGE, NULL, 0) == -MUSQ_IMAGE_LENGTH);
 }
 
 /* ---- operations: columns 0 to 2, and the point (1, 0), a plan without a stage */
@@ -205,14 +170,16 @@ static void operations(void)
     static const uint8_t none[] = {0, 0, 0};
     static const uint8_t two[] = {1, 1, 0};
     static const uint8_t ahead[] = {0, 1, 1};
-    static const uint8_t behind[] = {1, 0, 0};
+    static const uint8_t behind[] = {1, 0, 1}; /* what comes in at the end is occupied */
+    static const uint8_t last[] = {0, 0, 1};   /* what runs off the end stays */
 
     refusals("musq_dilate, refused", musq_dilate);
     refusals("musq_erode, refused", musq_erode);
     refusals("musq_open, refused", musq_open);
     refusals("musq_close, refused", musq_close);
     expect_part("musq_dilate", musq_dilate, columns, 3, frame, 1, full);
-    expect_part("musq_erode", musq_erode, columns, 3, frame, 1, none);
+    expect_part("musq_erode", musq_erode, columns, 3, frame, 1, last);
+    expect_part("musq_erode, full", musq_erode, columns, 3, full, 1, full);
     expect_part("musq_open", musq_open, columns, 3, frame, 2, none);
     expect_part("musq_close", musq_close, columns, 3, frame, 2, full);
     expect_part("musq_dilate, a point", musq_dilate, point, 2, two, 0, ahead);
@@ -287,6 +254,7 @@ int main(void)
 {
     lists();
     frames();
+    second_kind();
     operations();
     parts();
     arrivals();

@@ -2,6 +2,7 @@
 //! back. One case is an operation, a plan list, a frame and the lengths of both images.
 
 use crate::cases::hex;
+use crate::frames::Around;
 use std::fmt;
 
 pub mod check;
@@ -30,6 +31,15 @@ impl Op {
         match self {
             Op::Dilate | Op::Erode => n,
             Op::Open | Op::Close => 2 * n,
+        }
+    }
+
+    /// What the cells outside the frame are, and so the kind of grid that it works in:
+    /// erosion alone reads them as occupied.
+    pub fn around(self) -> Around {
+        match self {
+            Op::Erode => Around::Occupied,
+            Op::Dilate | Op::Open | Op::Close => Around::Free,
         }
     }
 

@@ -5,7 +5,7 @@ use musqerpi_tests::frames::check::Checker;
 use musqerpi_tests::frames::grounds::holding;
 use musqerpi_tests::frames::makers::Maker;
 use musqerpi_tests::frames::refused::Kind;
-use musqerpi_tests::frames::{grid_of, stage_word, Case};
+use musqerpi_tests::frames::{grid_of, stage_word, Around, Case, Mode, AROUND, MODES};
 use musqerpi_tests::reference::grounds::is_stage;
 
 /// Sides that no frame has.
@@ -26,15 +26,23 @@ const BAD_SIDES: [usize; 13] = [
 ];
 const GOOD_SIDES: [usize; 5] = [1, 2, 16, 239, 240];
 
-/// All three calls on a size with so many bytes read and written, all cells free.
-fn three_calls((w, h): (usize, usize), read_n: usize, write_n: usize) -> [Case; 4] {
-    let read = vec![0; read_n];
-    [
-        Case::load(w, h, &read),
-        Case::put(w, h, &read, write_n),
-        Case::stage(stage_word(3), false, (w, h), &read, write_n),
-        Case::stage(stage_word(3), true, (w, h), &read, write_n),
-    ]
+/// The single stage of a mask in each mode on a size, with these bytes read.
+fn single_stages(mask: u32, size: (usize, usize), from: &[u8], to_n: usize) -> Vec<Case> {
+    let stage = |mode: Mode| Case::stage(stage_word(mask), mode, size, from, to_n);
+    MODES.map(stage).to_vec()
+}
+
+/// Putting in both kinds of grid.
+fn puts((w, h): (usize, usize), frame: &[u8], image_n: usize) -> Vec<Case> {
+    let put = |around: Around| Case::put(w, h, frame, around, image_n);
+    AROUND.map(put).to_vec()
+}
+
+/// The load, and putting in both kinds of grid.
+fn frame_calls(size: (usize, usize), frame: &[u8], image_n: usize) -> Vec<Case> {
+    let mut cases = vec![Case::load(size.0, size.1, frame)];
+    cases.extend(puts(size, frame, image_n));
+    cases
 }
 
 #[test]
@@ -49,7 +57,10 @@ fn sizes() {
             let write_n = if grid < 70_000 { grid } else { 300 };
             for size in [(bad, other), (other, bad)] {
                 for n in [read_n, write_n] {
-                    for case in three_calls(size, n, write_n) {
+                    let free = vec![0; n];
+                    let mut cases = frame_calls(size, &free, write_n);
+                    cases.extend(single_stages(3, size, &free, write_n));
+                    for case in cases {
                         checker.answers(&case, -11);
                     }
                 }
@@ -68,10 +79,9 @@ fn columns_240_pass_and_241_give_11() {
             let of = |answer: i64| if refused { -11 } else { answer };
             let load = Case::load(size.0, size.1, &vec![1; cells]);
             checker.answers(&load, of(cells as i64));
-            let put = Case::put(size.0, size.1, &vec![1; cells], grid);
-            checker.answers(&put, of(0));
-            for erode in [false, true] {
-                let case = Case::stage(stage_word(511), erode, size, &vec![1; grid], grid);
+            let mut cases = puts(size, &vec![1; cells], grid);
+            cases.extend(single_stages(511, size, &vec![1; grid], grid));
+            for case in cases {
                 checker.answers(&case, of(0));
             }
         }
@@ -102,14 +112,15 @@ fn lengths() {
             for image_n in about(grid).into_iter().chain([cells]) {
                 let image = if image_n >= grid { 0 } else { -14 };
                 let wanted = if frame != 0 { frame } else { image };
-                checker.answers(&Case::put(w, h, &vec![1; read_n], image_n), wanted);
+                for case in puts((w, h), &vec![1; read_n], image_n) {
+                    checker.answers(&case, wanted);
+                }
             }
         }
         for from_n in about(grid).into_iter().chain([cells]) {
             for to_n in about(grid).into_iter().chain([cells]) {
                 let enough = from_n >= grid && to_n >= grid;
-                for erode in [false, true] {
-                    let case = Case::stage(stage_word(17), erode, (w, h), &vec![1; from_n], to_n);
+                for case in single_stages(17, (w, h), &vec![1; from_n], to_n) {
                     checker.answers(&case, if enough { 0 } else { -14 });
                 }
             }
@@ -130,7 +141,7 @@ fn cells_above_1_at_each_place() {
     let mut checker = Checker::new(404);
     for (w, h) in [(1, 1), (2, 3), (4, 4), (9, 1), (240, 240)] {
         let grid = grid_of(w, h);
-        for case in three_calls((w, h), w * h, grid).into_iter().take(2) {
+        for case in frame_calls((w, h), &vec![0; w * h], grid) {
             let last = w * h - 1;
             for place in (0..last.min(20)).chain([last / 2, last]) {
                 for value in [2, 3, 128, 254, 255] {
@@ -138,7 +149,7 @@ fn cells_above_1_at_each_place() {
                 }
             }
         }
-        for case in three_calls((w, h), grid + 3, grid).into_iter().skip(2) {
+        for case in single_stages(3, (w, h), &vec![0; grid + 3], grid) {
             for place in [0, 1, w - 1, w, w + 14, w + 15, grid / 2, grid - 2, grid - 1] {
                 for value in [2, 3, 128, 254, 255] {
                     checker.answers(&with_cell(&case, place, value), -13);
@@ -160,7 +171,7 @@ fn cells_above_1_in_a_short_image() {
     let grid = grid_of(3, 2);
     for from_n in [1, 2, 100, grid - 1] {
         for to_n in [0, grid - 1, grid] {
-            for case in three_calls((3, 2), from_n, to_n).into_iter().skip(2) {
+            for case in single_stages(3, (3, 2), &vec![0; from_n], to_n) {
                 checker.answers(&case, -14);
                 checker.answers(&with_cell(&case, 0, 2), -13);
                 checker.answers(&with_cell(&case, from_n - 1, 255), -13);
@@ -179,8 +190,8 @@ fn every_mask_and_every_kind() {
         for kind in 0..16 {
             let word = kind << 28 | mask;
             let wanted = if kind == 5 { valid } else { -2 };
-            for erode in [false, true] {
-                checker.answers(&Case::stage(word, erode, size, &from, grid), wanted);
+            for mode in MODES {
+                checker.answers(&Case::stage(word, mode, size, &from, grid), wanted);
             }
         }
     }
@@ -198,8 +209,7 @@ fn masks_written_out() {
     let stages = [3, 5, 9, 10, 12, 17, 65, 68, 84, 257, 510, 511];
     for (masks, wanted) in [(&none[..], -7), (&stages[..], 0)] {
         for &mask in masks {
-            for erode in [false, true] {
-                let case = Case::stage(stage_word(mask), erode, (1, 1), &vec![1; grid], grid);
+            for case in single_stages(mask, (1, 1), &vec![1; grid], grid) {
                 checker.answers(&case, wanted);
             }
         }
@@ -214,11 +224,9 @@ fn every_extra_bit() {
         for mask in [0, 1, 2, 3, 256, 510, 511] {
             for (kind, wanted) in [(5, -3), (4, -2), (0, -2), (13, -2), (15, -2)] {
                 let word = kind << 28 | 1 << bit | mask;
-                for erode in [false, true] {
-                    checker.answers(
-                        &Case::stage(word, erode, (1, 2), &vec![1; grid], grid),
-                        wanted,
-                    );
+                for mode in MODES {
+                    let case = Case::stage(word, mode, (1, 2), &vec![1; grid], grid);
+                    checker.answers(&case, wanted);
                 }
             }
         }

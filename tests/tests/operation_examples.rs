@@ -1,5 +1,5 @@
-//! (j) Document 01's own frames, written out by hand: through planning, the operation
-//! and the call that hands back the part.
+//! (j) The documents' own frames, written out by hand: through planning, the operation
+//! and the call that hands back the part. Two of document 01 are as document 02 has them.
 
 use musqerpi_tests::frames::grid_of;
 use musqerpi_tests::operations::check::Checker;
@@ -35,19 +35,20 @@ fn closing_by_columns_0_to_2() {
 fn erosion_by_columns_0_and_1() {
     let shape = [0x10000000, 0x20000003];
     assert_eq!(planned(&shape), Some(plan_list((0, 0), &[3])));
-    row(&shape, Op::Erode, &[1, 1], 1, &[1, 0]);
+    row(&shape, Op::Erode, &[1, 1], 1, &[1, 1]);
     row(&shape, Op::Erode, &[1, 1, 0], 1, &[1, 0, 0]);
 }
 
 #[test]
 fn one_point() {
     assert_eq!(planned(&POINT_1_0), Some(plan_list((1, 0), &[])));
-    row(&POINT_1_0, Op::Erode, &[1, 0, 0], 0, &[0, 0, 0]);
+    row(&POINT_1_0, Op::Erode, &[1, 0, 0], 0, &[0, 0, 1]);
     row(&POINT_1_0, Op::Open, &[1, 0, 0], 0, &[1, 0, 0]);
     // And what it does else: dilation moves by the point, erosion back.
     row(&POINT_1_0, Op::Dilate, &[1, 0, 0], 0, &[0, 1, 0]);
     row(&POINT_1_0, Op::Dilate, &[0, 0, 1], 0, &[0, 0, 0]);
-    row(&POINT_1_0, Op::Erode, &[0, 1, 1], 0, &[1, 1, 0]);
+    row(&POINT_1_0, Op::Erode, &[0, 1, 1], 0, &[1, 1, 1]);
+    row(&POINT_1_0, Op::Erode, &[0, 1, 0], 0, &[1, 0, 1]);
     row(&POINT_1_0, Op::Close, &[0, 0, 1], 0, &[0, 0, 1]);
 }
 
@@ -60,7 +61,7 @@ fn the_row_of_four_cells() {
     row(&shape, Op::Dilate, &frame, 2, &[0, 1, 1, 1, 1, 1, 1]);
     row(&shape, Op::Close, &frame, 4, &[0, 0, 1, 1, 1, 1, 1]);
     let frame = [1, 1, 1, 1, 1, 0, 1];
-    row(&shape, Op::Erode, &frame, 2, &[0, 1, 1, 0, 0, 0, 0]);
+    row(&shape, Op::Erode, &frame, 2, &[1, 1, 1, 0, 0, 0, 0]);
     row(&shape, Op::Open, &frame, 4, &[1, 1, 1, 1, 1, 0, 0]);
 }
 
@@ -75,7 +76,7 @@ fn a_slant_in_two_rows() {
     let frame = [1, 1, 0, 0, 1, 0];
     let wanted = [
         (Op::Dilate, 1, [1, 1, 0, 0, 1, 1]),
-        (Op::Erode, 1, [1, 0, 0, 0, 0, 0]),
+        (Op::Erode, 1, [1, 0, 0, 0, 1, 0]),
         (Op::Open, 2, [1, 0, 0, 0, 1, 0]),
         (Op::Close, 2, [1, 1, 0, 0, 1, 0]),
     ];

@@ -9,7 +9,7 @@ use musqerpi_tests::operations::check::Checker;
 use musqerpi_tests::operations::in_turn;
 use musqerpi_tests::operations::makers::{planned as planned_list, Maker};
 use musqerpi_tests::operations::plane::Plane;
-use musqerpi_tests::operations::reference::directly;
+use musqerpi_tests::operations::reference::{directly, on_the_plane};
 use musqerpi_tests::operations::{plan_list, Case, Op, OPS};
 use musqerpi_tests::reference::points::{bounds, of_plan, of_shape};
 
@@ -25,7 +25,7 @@ fn extremes(extent: i64) -> [i64; 3] {
 }
 
 /// The reference's window of bits against sets of points, on the whole plane about the
-/// frame: nothing is lost at its edges.
+/// frame, where every cell outside it is free: nothing is lost at its edges.
 #[test]
 fn the_window_against_sets_of_points() {
     let mut maker = Maker::new(501);
@@ -35,7 +35,7 @@ fn the_window_against_sets_of_points() {
         let (a, frame) = (of_plan(&plan), maker.picture(size));
         let x = occupied(&frame, size.0);
         for op in OPS {
-            let made = directly(op, &Plane::of_frame(size, &frame), &a);
+            let made = on_the_plane(op, &Plane::of_frame(size, &frame), &a);
             let wanted = match op {
                 Op::Dilate => plus(&x, &a),
                 Op::Erode => minus(&x, &a),
@@ -138,9 +138,8 @@ fn planned(kind: Kind, shapes: usize, limit: i64, seed: u64) -> u64 {
         for op in OPS {
             let case = maker.case(op, &plan, size);
             let (_, part) = checker.check(&case).expect("no ground holds");
-            let x = Plane::of_frame(size, &case.frame);
-            let made = directly(op, &x, &of_shape(&shape));
-            assert_eq!(made.cells(size), part, "{} by {case}", hex(&shape));
+            let made = directly(op, size, &case.frame, &of_shape(&shape));
+            assert_eq!(made, part, "{} by {case}", hex(&shape));
         }
     }
     checker.tally.assert_results(30);
@@ -236,7 +235,7 @@ fn the_greatest_sizes() {
     checker.tally.assert_results(100);
 }
 
-/// What the single stages give in turn is the part too.
+/// What the single stages give in turn is the part too, in the operation's kind of grid.
 #[test]
 fn single_stages_in_turn() {
     let (mut maker, mut checker) = (Maker::new(519), Checker::new(520));

@@ -13,7 +13,7 @@ use Rattle.words.specs.Word.{stageMask}
 use Rattle.shapes.specs.Calls.{ListWritten, movedPoints, movingTests, joinedPoints, joiningTests, summedPoints, summingTests, turningTests}
 use Rattle.shapes.specs.Plan.{planPoints}
 use Rattle.planning.specs.Planning.{planningTests, Planned, PlanWritten, Unplannable}
-use Rattle.grids.specs.Frame.{frameTests, load, free}
+use Rattle.grids.specs.Frame.{frameTests, load}
 use Rattle.grids.specs.Share.{told}
 use Rattle.grids.specs.Grid.{putTests, stageTests, GridWritten, put, once}
 use Rattle.cleaning.specs.Cleaning.{operationTests, Ran}
@@ -53,8 +53,8 @@ demand1 = record {
   summing = λ ws vs out r out′ a. first (summingTests ws vs out) r (out′ ≡ out) (ListWritten (summedPoints ws vs) out r out′) a (λ w. ground (w .answer));
   turning = λ ws out r out′ a. first (turningTests ws out) r (out′ ≡ out) (ListWritten (planPoints ws) out r out′) a (λ w. ground (w .answer));
   planning = plan-first;
-  putting = λ W H f i r i′ a. first (putTests W H f i) r (i′ ≡ i) (GridWritten W H (put W H f) i r i′) a (λ w. ground (w .answer));
-  staging = λ erode w W H g i r i′ a. first (stageTests w W H g i) r (i′ ≡ i) (GridWritten W H (once erode free W H (stageMask w) g) i r i′) a
+  putting = λ k W H f i r i′ a. first (putTests W H f i) r (i′ ≡ i) (GridWritten W H (put k W H f) i r i′) a (λ w. ground (w .answer));
+  staging = λ erode k w W H g i r i′ a. first (stageTests w W H g i) r (i′ ≡ i) (GridWritten W H (once erode k W H (stageMask w) g) i r i′) a
       (λ q. ground (q .answer));
   counting = λ W H f r a. first (frameTests W H f) r (Unit {0}) (stated r ≡ result (load f)) a (λ e. ground e) .0;
   sharing = λ W H f a p. promised-number (frameTests W H f) (told a .0) (λ _ e. ap (λ t. t .0) e) (λ w. w .answer) p .0;

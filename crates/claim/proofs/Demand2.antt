@@ -3,12 +3,15 @@
 use mathlib.Core.Path.{_≡_, sym, _∙_, ap, ap₂, subst}
 use mathlib.Core.Bool.{not}
 use mathlib.Core.List.{List, [], _∷_}
-use Prim.Native.Nat.{ℕ}
-use lib.Dec.{T}
+use Prim.Native.Nat.{ℕ, _*_, _≤_}
+use native.Mathlib.Omega.{arith}
+use lib.Dec.{T, eqb, eqb→eq}
 use lib.ListN.{length, take, drop}
 use lib.Seq.{take-append-seam, drop-append-seam}
 use Rattle.words.specs.declared.Answer.{Answer}
 use Rattle.cleaning.specs.declared.Operation.{Operation}
+use Rattle.grids.specs.Grid.{workTests}
+use Rattle.plane.proofs.Tests.{un-not}
 use Rattle.plane.specs.Lists.{In}
 use Rattle.plane.specs.Point.{Point, PointSet, _+ᵖ_, _-ᵖ_, _≐_, moved}
 use Rattle.plane.proofs.Algebra.{≐-trans, +ᵖ-cancel, subᵖ-cancel}
@@ -27,7 +30,9 @@ use Rattle.planning.specs.Planning.{ShapeSet}
 use Rattle.cleaning.specs.Cleaning.{Cleaned, operationTests, part}
 use Rattle.cleaning.specs.Operation.{Direct}
 use Rattle.claim.proofs.Arriving.{row-shows}
-use Rattle.claim.specs.Demand2.{ListShows, Demand2}
+use Rattle.claim.proofs.Outside.{direct-shows}
+use Rattle.claim.specs.Demand2.{Demand2}
+use Rattle.claim.specs.Shows.{ListShows}
 use Rattle.claim.proofs.Cells.{put-shown, stage-shown, load-counted, share-shown}
 
 -- a list that is written stands for its points, and so for any set that has these
@@ -70,13 +75,22 @@ part-direct op plan W H f i j s i′ j′ c e =
     let ran = c .done e in
     subst (λ a. Direct op W H f (In (planPoints plan)) (part (a .1) W H i′ j′)) (sym (ran .answer)) (ran .direct)
 
+-- an accepted frame has all its cells
+frame-long : (plan : List ℕ) (W H : ℕ) (f i j : List ℕ) → firstOf (operationTests plan W H f i j) ≡ 0 → W * H ≤ length f
+unfolding planTests workTests
+frame-long plan W H f i j e =
+    let c = clear-last (planTests plan) (workTests W H f i j) (clear (operationTests plan W H f i j) tt e) in
+    let l = eqb→eq (length f) (W * H) (un-not (eqb (length f) (W * H)) (c .1 .0)) in
+    omega arith
+
 pub demand2 : Demand2
 demand2 = record {
   moving = λ ws d out r out′ a e. shown (movedPoints ws d) out out′ r (moved-fits ws d out e) (moved-is ws d) (a .done e);
   joining = λ ws vs out r out′ a e. shown (joinedPoints ws vs) out out′ r (joined-fits ws vs out e) (In-append (shapePoints ws) (shapePoints vs)) (a .done e);
   summing = λ ws vs out r out′ a e. shown (summedPoints ws vs) out out′ r (summed-fits ws vs out e) (sums-is (shapePoints ws) (shapePoints vs)) (a .done e);
   turning = λ ws out r out′ a e. shown (planPoints ws) out out′ r (turned-fits ws out e) (plan-points ws) (a .done e);
-  cleaning = part-direct;
+  cleaning = λ op plan W H f i j s i′ j′ a e.
+      direct-shows W H f (frame-long plan W H f i j e) op (In (planPoints plan)) (part (stated s .1) W H i′ j′) (part-direct op plan W H f i j s i′ j′ a e);
   putting = put-shown;
   staging = stage-shown;
   counting = load-counted;

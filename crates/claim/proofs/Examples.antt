@@ -1,15 +1,17 @@
 -- What the demands say on cases, each read off the demand alone: a demand that is loosened, or says another thing, no longer gives them.
 use mathlib.Core.Path.{_≡_, refl, sym, _∙_, ap, ap₂, subst}
 use mathlib.Core.Logic.{inl, inr, ⊎-elim}
-use mathlib.Core.Bool.{false}
+use mathlib.Core.Bool.{false, cond, _&&_}
 use mathlib.Core.List.{List, [], _∷_}
-use Prim.Native.Nat.{ℕ, _+_, _*_, _≤_, _<_}
+use Prim.Native.Nat.{ℕ, zero, suc, _+_, _*_, _≤_, _<_}
 use native.Mathlib.Omega.{arith}
-use lib.IntN.{pos, natAbs}
+use lib.Dec.{ltb}
+use lib.IntN.{ℤ, pos, negsuc, natAbs, _+ℤ_, +ℤ-idr}
 use lib.ListN.{length, take, drop, getD, replicate}
 use lib.Seq.{getD-drop}
+use borrow.Author.Tests.{le-ltb}
 use Rattle.plane.specs.Lists.{In}
-use Rattle.plane.specs.Point.{Point, _+ᵖ_, negᵖ, origin}
+use Rattle.plane.specs.Point.{Point, _+ᵖ_, negᵖ, origin, erosion}
 use Rattle.plane.proofs.Algebra.{≐-trans, ≐-sym}
 use Rattle.words.specs.Ground.{stated, result, refusal}
 use Rattle.words.specs.declared.Answer.{Answer}
@@ -23,14 +25,15 @@ use Rattle.shapes.specs.Plan.{planPoints, planTests}
 use Rattle.shapes.specs.Shape.{shapePoints, shapeTests, outOfRange}
 use Rattle.planning.specs.Planning.{ShapeSet, Planned, PlanWritten}
 use Rattle.grids.specs.Frame.{frameTests, LoadCounted}
-use Rattle.grids.specs.Grid.{once, putTests, FramePut, stageTests, Staged}
+use Rattle.grids.specs.Grid.{once, putTests, FramePut, stageTests, Staged, workTests}
 use Rattle.grids.specs.Image.{cells, valueAt}
 use Rattle.grids.specs.Share.{told, Shared}
+use Rattle.grids.specs.declared.Around.the-variants.{Free, Occupied}
 use Rattle.grids.specs.declared.Share.{Share}
 use Rattle.grids.specs.declared.Share.the-variants.{Exact}
-use Rattle.cleaning.specs.Cleaning.{part}
+use Rattle.cleaning.specs.Cleaning.{part, Cleaned}
 use Rattle.cleaning.specs.Operation.{inTurn, lastGrid}
-use Rattle.cleaning.specs.declared.Operation.the-variants.{Closing}
+use Rattle.cleaning.specs.declared.Operation.the-variants.{Erosion, Opening, Closing}
 use Rattle.rolling.specs.Claim.{allFree, Arrivals, Right, takesRow}
 use Rattle.rolling.specs.Rolling.{arrivalTests, Arrived}
 use Rattle.claim.specs.Demand1.{Demand1}
@@ -38,6 +41,7 @@ use Rattle.claim.specs.Demand2.{Demand2}
 use Rattle.claim.specs.Demand3.{Demand3, Agrees, Decided, Served}
 use Rattle.claim.specs.Measured.{fourWords, threeWords}
 use Rattle.claim.specs.RoundTrip.{RoundTrip}
+use Rattle.claim.specs.Shows.{framePoints, withOutside}
 use Rattle.claim.specs.Waterfall.{Waterfall}
 use Rattle.claim.specs.Whole.{handedFor, Lent}
 use Rattle.claim.proofs.Demand2.{moved-is}
@@ -55,10 +59,10 @@ below = 0x30000001 ∷ 0x40000f0f ∷ 0x50000009 ∷ []
 -- ---- demand 1
 
 -- a cell of 2: ground 13, and the image is as it was
-put-refused : Demand1 → (r : Answer) (i′ : List ℕ) → FramePut 1 1 (2 ∷ []) (replicate 256 7) r i′ → (stated r .0 ≡ 13) × (i′ ≡ replicate 256 7)
+put-refused : Demand1 → (r : Answer) (i′ : List ℕ) → FramePut Free 1 1 (2 ∷ []) (replicate 256 7) r i′ → (stated r .0 ≡ 13) × (i′ ≡ replicate 256 7)
 unfolding frameTests putTests
 put-refused D r i′ p =
-    let d = D .putting 1 1 (2 ∷ []) (replicate 256 7) r i′ p in
+    let d = D .putting Free 1 1 (2 ∷ []) (replicate 256 7) r i′ p in
     (d .0, d .1 (λ z. let n : _≡_ {A = ℕ} 13 0 = sym (d .0) ∙ z in omega arith))
 
 share-refused : Demand1 → (a : Share) → Shared 1 1 (2 ∷ []) a → told a .0 ≡ 13
@@ -85,17 +89,17 @@ four-not-ten D out h r out′ p t = ⊎-elim
 -- ---- demand 2
 
 -- the cell (0, 0) dilated by columns 0 and 1 has the cell (1, 0)
-stage-right : Demand2 → (r : Answer) (i′ : List ℕ) → Staged false 0x50000003 1 1 (1 ∷ replicate 255 0) (replicate 257 7) r i′ → getD i′ 1 0 ≡ 1
+stage-right : Demand2 → (r : Answer) (i′ : List ℕ) → Staged false Free 0x50000003 1 1 (1 ∷ replicate 255 0) (replicate 257 7) r i′ → getD i′ 1 0 ≡ 1
 unfolding stageTests stage maskCells valueAt _+ᵖ_ negᵖ
 stage-right D r i′ p = ⊎-elim
     (λ q. q .0)
     (λ q. absurd (q .1 ((pos 0, pos 0), (pos 1, pos 0), refl, inr (inl refl), refl)))
-    (D .staging false 0x50000003 1 1 (1 ∷ replicate 255 0) (replicate 257 7) r i′ p refl .cell 1 0 (omega arith) (omega arith))
+    (D .staging false Free 0x50000003 1 1 (1 ∷ replicate 255 0) (replicate 257 7) r i′ p refl .cell 1 0 (omega arith) (omega arith))
 
 -- and answers 0
-stage-answers : Demand2 → (r : Answer) (i′ : List ℕ) → Staged false 0x50000003 1 1 (1 ∷ replicate 255 0) (replicate 257 7) r i′ → stated r ≡ result 0
+stage-answers : Demand2 → (r : Answer) (i′ : List ℕ) → Staged false Free 0x50000003 1 1 (1 ∷ replicate 255 0) (replicate 257 7) r i′ → stated r ≡ result 0
 unfolding stageTests stage maskCells
-stage-answers D r i′ p = D .staging false 0x50000003 1 1 (1 ∷ replicate 255 0) (replicate 257 7) r i′ p refl .answer
+stage-answers D r i′ p = D .staging false Free 0x50000003 1 1 (1 ∷ replicate 255 0) (replicate 257 7) r i′ p refl .answer
 
 -- two columns moved: the words past the two of the list are as they were
 moved-past : Demand2 → (r : Answer) (out′ : List ℕ) → Moved (0x10000000 ∷ 0x20000005 ∷ []) (pos 2, pos 3) (replicate 18 7) r out′ → stated r .1 ≡ 2
@@ -117,12 +121,79 @@ moved-laid D r out′ p n =
     (s .laid ∙ listed-same (shapePoints (take (stated r .1) out′)) (movedPoints ws (pos 2, pos 3)) same)
 
 -- one column of two rows, the second occupied, is so in the grid
-put-right : Demand2 → (r : Answer) (i′ : List ℕ) → FramePut 1 2 (0 ∷ 1 ∷ []) (replicate 273 7) r i′ → getD i′ 16 0 ≡ 1
+put-right : Demand2 → (r : Answer) (i′ : List ℕ) → FramePut Free 1 2 (0 ∷ 1 ∷ []) (replicate 273 7) r i′ → getD i′ 16 0 ≡ 1
 unfolding frameTests putTests valueAt
 put-right D r i′ p = ⊎-elim
     (λ q. q .0)
     (λ q. absurd (q .1 refl))
-    (D .putting 1 2 (0 ∷ 1 ∷ []) (replicate 273 7) r i′ p refl .cell 0 1 (omega arith) (omega arith))
+    (D .putting Free 1 2 (0 ∷ 1 ∷ []) (replicate 273 7) r i′ p refl .cell 0 1 (omega arith) (omega arith))
+
+-- the plan of the points (0, 0) and (1, 0)
+abbrev beside : List ℕ
+beside = 0x30000001 ∷ 0x40000f0f ∷ 0x50000003 ∷ []
+
+-- 1 1 eroded by it: the last cell stays, since what is outside is joined to the frame
+stays-off : Demand2 → (s : Answer) (i′ j′ : List ℕ) → Cleaned Erosion beside 2 1 (1 ∷ 1 ∷ []) (replicate 272 7) (replicate 272 7) s i′ j′
+    → getD (part (stated s .1) 2 1 i′ j′) 1 0 ≡ 1
+unfolding planTests workTests planPoints maskCells valueAt _+ᵖ_ negᵖ
+stays-off D s i′ j′ p = ⊎-elim
+    (λ q. q .0)
+    (λ q. absurd (q .1 all))
+    (D .cleaning Erosion beside 2 1 (1 ∷ 1 ∷ []) (replicate 272 7) (replicate 272 7) s i′ j′ p refl .cell 1 0 (omega arith) (omega arith))
+  where
+    past : (x y : ℕ) → x < 2 → y < 1 → ¬ (_≡_ {A = Point} (pos 2, pos 0) (pos x, pos y))
+    past x y h k q = let e : 2 ≡ x = ap (λ z. natAbs (z .0)) q in omega arith
+
+    all : erosion (withOutside 2 1 (1 ∷ 1 ∷ [])) (In (planPoints beside)) (pos 1, pos 0)
+    all b (inl e) = subst (λ z. withOutside 2 1 (1 ∷ 1 ∷ []) ((pos 1, pos 0) +ᵖ z)) (sym e) (inl refl)
+    all b (inr (inl e)) = subst (λ z. withOutside 2 1 (1 ∷ 1 ∷ []) ((pos 1, pos 0) +ᵖ z)) (sym e) (inr past)
+    all b (inr (inr e)) = absurd e
+
+-- the frame 1 has no point in another column than 0
+only-first : (x y : ℤ) → framePoints 1 1 (1 ∷ []) (x, y) → x ≡ pos 0
+unfolding valueAt
+only-first (pos zero) y h = refl
+only-first (pos (suc x)) (pos y) h =
+    let e = ap {B = ℕ} (λ t. cond (t && ltb y 1) (getD (1 ∷ []) (y * 1 + suc x) 0) 0) (le-ltb (suc x) 1 (omega arith)) in
+    let n : _≡_ {A = ℕ} 0 1 = sym e ∙ h in
+    absurd (omega arith)
+only-first (pos (suc x)) (negsuc y) h = absurd (let n : _≡_ {A = ℕ} 0 1 = h in omega arith)
+only-first (negsuc x) y h = absurd (let n : _≡_ {A = ℕ} 0 1 = h in omega arith)
+
+-- 1 opened by the two points: nothing stays, since what is outside reads as free
+goes-off : Demand2 → (s : Answer) (i′ j′ : List ℕ) → Cleaned Opening beside 1 1 (1 ∷ []) (replicate 256 7) (replicate 256 7) s i′ j′
+    → getD (part (stated s .1) 1 1 i′ j′) 0 0 ≡ 0
+unfolding planTests workTests planPoints maskCells _+ᵖ_ negᵖ
+goes-off D s i′ j′ p = ⊎-elim
+    (λ q. absurd (none (q .1 .0) (q .1 .2)))
+    (λ q. q .0)
+    (D .cleaning Opening beside 1 1 (1 ∷ []) (replicate 256 7) (replicate 256 7) s i′ j′ p refl .cell 0 0 (omega arith) (omega arith))
+  where
+    none : (q : Point) → erosion (framePoints 1 1 (1 ∷ [])) (In (planPoints beside)) q → ⊥
+    none q h =
+        let a : q .0 ≡ pos 0 = sym (+ℤ-idr (q .0)) ∙ only-first (q .0 +ℤ pos 0) (q .1 +ℤ pos 0) (h (pos 0, pos 0) (inl refl)) in
+        let b : pos 0 +ℤ pos 1 ≡ pos 0
+        = ap (λ x. x +ℤ pos 1) (sym a) ∙ only-first (q .0 +ℤ pos 1) (q .1 +ℤ pos 0) (h (pos 1, pos 0) (inr (inl refl))) in
+        let n : _≡_ {A = ℕ} 1 0 = ap natAbs b in
+        omega arith
+
+-- in the second kind of grid a frame of one free cell stands at the last byte, and the first is occupied
+put-around : Demand2 → (r : Answer) (i′ : List ℕ) → FramePut Occupied 1 1 (0 ∷ []) (replicate 256 7) r i′ → (getD i′ 255 0 ≡ 0) × (getD i′ 0 0 ≡ 1)
+unfolding frameTests putTests valueAt
+put-around D r i′ p =
+    let d = D .putting Occupied 1 1 (0 ∷ []) (replicate 256 7) r i′ p refl in (
+      ⊎-elim (λ q. absurd (let n : _≡_ {A = ℕ} 0 1 = q .1 in omega arith)) (λ q. q .0) (d .cell 15 15 (omega arith) (omega arith)),
+      ⊎-elim (λ q. q .0) (λ q. absurd (q .1 refl)) (d .cell 0 0 (omega arith) (omega arith)),
+    )
+
+-- and a stage there reads occupied cells beyond its first column
+stage-around : Demand2 → (r : Answer) (i′ : List ℕ) → Staged false Occupied 0x50000003 1 1 (replicate 256 0) (replicate 256 7) r i′ → getD i′ 0 0 ≡ 1
+unfolding stageTests stage valueAt maskCells _+ᵖ_ negᵖ
+stage-around D r i′ p =
+    ⊎-elim
+    (λ q. q .0)
+    (λ q. absurd (q .1 ((negsuc 15, negsuc 14), (pos 1, pos 0), refl, inr (inl refl), refl)))
+    (D .staging false Occupied 0x50000003 1 1 (replicate 256 0) (replicate 256 7) r i′ p refl .cell 0 0 (omega arith) (omega arith))
 
 counts-two : Demand2 → (r : Answer) → LoadCounted 3 1 (1 ∷ 0 ∷ 1 ∷ []) r → stated r ≡ result 2
 unfolding frameTests cells valueAt

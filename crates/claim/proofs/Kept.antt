@@ -20,7 +20,7 @@ use Rattle.shapes.specs.Plan.{planTests, planPoints}
 use Rattle.shapes.specs.Shape.{shapeTests}
 use Rattle.planning.specs.Planning.{ShapeSet, planningTests, Planned, Unplannable, PlanWritten}
 use Rattle.planning.proofs.Decided.{can-plan, can-refuse}
-use Rattle.grids.specs.Frame.{frameTests, load, free}
+use Rattle.grids.specs.Frame.{frameTests, load}
 use Rattle.grids.specs.Grid.{putTests, stageTests, put, once, written, GridWritten, workTests}
 use Rattle.grids.specs.Share.{told, TenThousandths}
 use Rattle.grids.specs.declared.Share.the-variants as shares
@@ -82,8 +82,8 @@ kept = record {
       let q = can-promise {S = Unit {0}} (λ a k. told a ≡ (k, 0, 0)) shares.Refused (λ _. refl) (frameTests W H f) tt tt (λ _. Unit {0})
       (λ a _. TenThousandths W H f a) tt (λ z. (Exact (10000 * load f / (W * H)) (10000 * load f % (W * H)), tt, can-share W H f z)) in
       (q .0, q .2);
-  putting = λ W H f i. grid-kept (putTests W H f i) W H (put W H f) i tt;
-  staging = λ erode w W H g i. grid-kept (stageTests w W H g i) W H (once erode free W H (stageMask w) g) i tt;
+  putting = λ k W H f i. grid-kept (putTests W H f i) W H (put k W H f) i tt;
+  staging = λ erode k w W H g i. grid-kept (stageTests w W H g i) W H (once erode k W H (stageMask w) g) i tt;
   cleaning = cleaning-kept;
   arriving = possible;
 }

@@ -1,6 +1,7 @@
 pub mod Demand1
 pub mod Cells
 pub mod Arriving
+pub mod Outside
 pub mod Demand2
 pub mod Demand3
 pub mod RoundTrip

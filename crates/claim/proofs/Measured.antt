@@ -171,8 +171,8 @@ measured = record {
   eight-points = refl;
   eight-allowed = refl;
   closed = cleans-as Closing threeWords origin (7 ∷ []) (1 ∷ 0 ∷ 1 ∷ []) 2 (1 ∷ 1 ∷ 1 ∷ []) refl threePicked tt tt refl refl;
-  eroded = cleans-as Erosion twoWords origin (3 ∷ []) (1 ∷ 1 ∷ []) 1 (1 ∷ 0 ∷ []) refl twoPicked tt tt refl refl;
+  eroded = cleans-as Erosion twoWords origin (3 ∷ []) (1 ∷ 1 ∷ []) 1 (1 ∷ 1 ∷ []) refl twoPicked tt tt refl refl;
   eroded-three = cleans-as Erosion twoWords origin (3 ∷ []) (1 ∷ 1 ∷ 0 ∷ []) 1 (1 ∷ 0 ∷ 0 ∷ []) refl twoPicked tt tt refl refl;
-  eroded-point = cleans-as Erosion rightWords right [] (1 ∷ 0 ∷ 0 ∷ []) 0 (0 ∷ 0 ∷ 0 ∷ []) refl rightPicked tt tt refl refl;
+  eroded-point = cleans-as Erosion rightWords right [] (1 ∷ 0 ∷ 0 ∷ []) 0 (0 ∷ 0 ∷ 1 ∷ []) refl rightPicked tt tt refl refl;
   opened-point = cleans-as Opening rightWords right [] (1 ∷ 0 ∷ 0 ∷ []) 0 (1 ∷ 0 ∷ 0 ∷ []) refl rightPicked tt tt refl refl;
 }

@@ -14,6 +14,7 @@ use Rattle.planning.specs.Planning.{ShapeSet, member, planningTests, Planned}
 use Rattle.grids.specs.Frame.{frameTests, LoadCounted}
 use Rattle.grids.specs.Grid.{putTests, FramePut, stageTests, Staged}
 use Rattle.grids.specs.Share.{told, Shared}
+use Rattle.grids.specs.declared.Around.{Around}
 use Rattle.grids.specs.declared.Share.{Share}
 use Rattle.cleaning.specs.Cleaning.{operationTests, Cleaned}
 use Rattle.cleaning.specs.declared.Operation.{Operation}
@@ -41,8 +42,9 @@ pub record Demand1 : Type 0 where
       → First (planningTests ws out) r (out′ ≡ out) ⊎ NoChain ws out r out′
   pub counting : (W H : ℕ) (f : List ℕ) (r : Answer) → LoadCounted W H f r → stated r .0 ≡ firstOf (frameTests W H f)
   pub sharing : (W H : ℕ) (f : List ℕ) (a : Share) → Shared W H f a → told a .0 ≡ firstOf (frameTests W H f)
-  pub putting : (W H : ℕ) (f i : List ℕ) (r : Answer) (i′ : List ℕ) → FramePut W H f i r i′ → First (putTests W H f i) r (i′ ≡ i)
-  pub staging : (erode : Bool) (w W H : ℕ) (g i : List ℕ) (r : Answer) (i′ : List ℕ) → Staged erode w W H g i r i′ → First (stageTests w W H g i) r (i′ ≡ i)
+  pub putting : (k : Around) (W H : ℕ) (f i : List ℕ) (r : Answer) (i′ : List ℕ) → FramePut k W H f i r i′ → First (putTests W H f i) r (i′ ≡ i)
+  pub staging : (erode : Bool) (k : Around) (w W H : ℕ) (g i : List ℕ) (r : Answer) (i′ : List ℕ) → Staged erode k w W H g i r i′
+      → First (stageTests w W H g i) r (i′ ≡ i)
   pub cleaning : (op : Operation) (plan : List ℕ) (W H : ℕ) (f i j : List ℕ) (r : Answer) (i′ j′ : List ℕ)
       → Cleaned op plan W H f i j r i′ j′ → First (operationTests plan W H f i j) r ((i′ ≡ i) × (j′ ≡ j))
   pub arriving : (plan : List ℕ) (W H : ℕ) (row live kept : List ℕ) (r : Answer) (live′ kept′ : List ℕ) → Arrived plan W H row live kept r live′ kept′

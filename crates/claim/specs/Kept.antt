@@ -14,6 +14,7 @@ use Rattle.planning.specs.Planning.{ShapeSet, member, permitted, planningTests,
 use Rattle.grids.specs.Frame.{LoadCounted}
 use Rattle.grids.specs.Grid.{FramePut, Staged}
 use Rattle.grids.specs.Share.{Shared}
+use Rattle.grids.specs.declared.Around.{Around}
 use Rattle.grids.specs.declared.Share.{Share}
 use Rattle.cleaning.specs.Cleaning.{Cleaned}
 use Rattle.cleaning.specs.declared.Operation.{Operation}
@@ -29,8 +30,8 @@ pub record Kept : Type 0 where
       → (r : Answer) × (out′ : List ℕ) × Planned ws out r out′
   pub counting : (W H : ℕ) (f : List ℕ) → (r : Answer) × LoadCounted W H f r
   pub sharing : (W H : ℕ) (f : List ℕ) → (a : Share) × Shared W H f a
-  pub putting : (W H : ℕ) (f i : List ℕ) → (r : Answer) × (i′ : List ℕ) × FramePut W H f i r i′
-  pub staging : (erode : Bool) (w W H : ℕ) (g i : List ℕ) → (r : Answer) × (i′ : List ℕ) × Staged erode w W H g i r i′
+  pub putting : (k : Around) (W H : ℕ) (f i : List ℕ) → (r : Answer) × (i′ : List ℕ) × FramePut k W H f i r i′
+  pub staging : (erode : Bool) (k : Around) (w W H : ℕ) (g i : List ℕ) → (r : Answer) × (i′ : List ℕ) × Staged erode k w W H g i r i′
   pub cleaning : (op : Operation) (plan : List ℕ) (W H : ℕ) (f i j : List ℕ)
       → (r : Answer) × (i′ : List ℕ) × (j′ : List ℕ) × Cleaned op plan W H f i j r i′ j′
   pub arriving : (plan : List ℕ) (W H : ℕ) (row live kept : List ℕ)

@@ -1,4 +1,5 @@
 pub mod Demand1
+pub mod Shows
 pub mod Demand2
 pub mod Demand3
 pub mod RoundTrip

@@ -105,9 +105,9 @@ pub record Measured : Type 0 where
   pub eight-allowed : (max (width (shapePoints eightWords)) (height (shapePoints eightWords)) + 1) / 2 ≡ 2
   -- 1 0 1 closed by columns 0–2
   pub closed : CleanedAs Closing threeWords (0x30000001 ∷ 0x40000f0f ∷ 0x50000007 ∷ []) (1 ∷ 0 ∷ 1 ∷ []) 2 (1 ∷ 1 ∷ 1 ∷ [])
-  -- 1 1 eroded by columns 0–1; the same on 1 1 0
-  pub eroded : CleanedAs Erosion twoWords (0x30000001 ∷ 0x40000f0f ∷ 0x50000003 ∷ []) (1 ∷ 1 ∷ []) 1 (1 ∷ 0 ∷ [])
+  -- 1 1 eroded by columns 0–1 (changed by document 02, W3); the same on 1 1 0
+  pub eroded : CleanedAs Erosion twoWords (0x30000001 ∷ 0x40000f0f ∷ 0x50000003 ∷ []) (1 ∷ 1 ∷ []) 1 (1 ∷ 1 ∷ [])
   pub eroded-three : CleanedAs Erosion twoWords (0x30000001 ∷ 0x40000f0f ∷ 0x50000003 ∷ []) (1 ∷ 1 ∷ 0 ∷ []) 1 (1 ∷ 0 ∷ 0 ∷ [])
-  -- one cell (1,0): 1 0 0 eroded, and opened
-  pub eroded-point : CleanedAs Erosion rightWords (0x30000000 ∷ 0x40000f10 ∷ []) (1 ∷ 0 ∷ 0 ∷ []) 0 (0 ∷ 0 ∷ 0 ∷ [])
+  -- one cell (1,0): 1 0 0 eroded (changed by W3), and opened
+  pub eroded-point : CleanedAs Erosion rightWords (0x30000000 ∷ 0x40000f10 ∷ []) (1 ∷ 0 ∷ 0 ∷ []) 0 (0 ∷ 0 ∷ 1 ∷ [])
   pub opened-point : CleanedAs Opening rightWords (0x30000000 ∷ 0x40000f10 ∷ []) (1 ∷ 0 ∷ 0 ∷ []) 0 (1 ∷ 0 ∷ 0 ∷ [])

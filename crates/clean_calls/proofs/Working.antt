@@ -5,10 +5,11 @@ use mathlib.Core.List.{List, _++_}
 use Prim.Native.Nat.{ℕ, _+_, _*_, _%_, _≤_}
 use native.Mathlib.Omega.{arith}
 use lib.Dec.{T, eqb, nltb→le}
+use lib.IntN.{pos}
 use lib.ListN.{length, getD, drop}
 use borrow.Author.Tests.{eqb-true}
 use Rattle.plane.specs.Lists.{In}
-use Rattle.plane.specs.Point.{Point}
+use Rattle.plane.specs.Point.{Point, _-ᵖ_}
 use Rattle.plane.proofs.Tests.{T-false, T-true, not-or, un-not}
 use Rattle.words.specs.Ground.{firstOf, stated, result}
 use Rattle.words.specs.Word.{placeX, placeY}
@@ -16,14 +17,17 @@ use Rattle.words.specs.declared.Answer.{Answer}
 use Rattle.words.proofs.Refusals.{Clear, clear, unclear, clear-first, clear-last}
 use Rattle.shapes.specs.Plan.{planMasks, planTests, planOffset, planPoints}
 use Rattle.grids.specs.Image.{view}
-use Rattle.grids.specs.Frame.{free, badSize, badCell, gridSize, shortImage}
-use Rattle.grids.specs.Grid.{put, workTests}
-use Rattle.grids.proofs.Putting.{put-whole}
+use Rattle.grids.specs.Frame.{badSize, badCell, gridSize, shortImage}
+use Rattle.grids.specs.Grid.{outsideOf, gridBytes, put, workTests}
+use Rattle.grids.specs.declared.Around.{Around}
+use Rattle.grids.specs.declared.Around.the-variants.{Free, Occupied}
+use Rattle.grids.proofs.Putting.{put-bytes}
+use Rattle.grids.proofs.Stage.{outside-low}
 use Rattle.frame_grounds.proofs.Sides.{sides}
-use Rattle.planes.specs.Planes.{Shows, packFits, FramePacked}
-use Rattle.planes.proofs.OnGrids.{low-bits, plane-fits, grid-pack, shown-cut}
+use Rattle.planes.specs.Planes.{Shows, lowBits, placeOf, farOf, packFits, FramePacked, Packed}
+use Rattle.planes.proofs.OnGrids.{low-bits, far-corner, plane-fits, grid-pack, shown-cut}
 use Rattle.cleaning.specs.declared.Operation.{Operation}
-use Rattle.cleaning.specs.Operation.{Direct, lastGrid, inTurn}
+use Rattle.cleaning.specs.Operation.{Direct, around, lastGrid, inTurn}
 use Rattle.cleaning.specs.Cleaning.{stagesRun, resultImage, part, operationTests, Cleaned}
 use Rattle.cleaning.proofs.Kept.{turn-length}
 use Rattle.cleaning.proofs.Plans.{accepted-direct}
@@ -34,6 +38,12 @@ use Rattle.result_steps.specs.Running.{Runnable}
 use Rattle.plan_grounds.proofs.Accepted.{plan-length, place-small}
 use Rattle.turn_steps.proofs.Alternating.{either, kept-past, past-same, past-then, room-past, same-either, same-of}
 use Rattle.result_steps.proofs.Reading.{cut-turn}
+
+-- a frame that is packed for one operation
+pub by-kind : (op o : Operation) → op ≡ o → {W H : ℕ} {f d : List ℕ} {r : Bool} {d′ : List ℕ}
+    → Packed (outsideOf (around o)) (farOf (around o)) W H (W + 15) (H + 15) f d r d′
+    → Packed (outsideOf (around op)) (farOf (around op)) W H (W + 15) (H + 15) f d r d′
+by-kind op o e {W} {H} {f} {d} {r} {d′} p = subst (λ a. Packed (outsideOf (around a)) (farOf (around a)) W H (W + 15) (H + 15) f d r d′) (sym e) p
 
 module _ (plan : List ℕ) (W H : ℕ) (f i j : List ℕ) (z : firstOf (operationTests plan W H f i j) ≡ 0) where
   all-clear : Clear (operationTests plan W H f i j)
@@ -66,17 +76,25 @@ module _ (plan : List ℕ) (W H : ℕ) (f i j : List ℕ) (z : firstOf (operatio
   unfolding workTests
   cells-clean = work-clear .1 .1 .0
 
-  -- so the frame goes into the plane in the first image
-  pub packs : T (packFits free W H (W + 15) (H + 15) (length f) (length i))
-  packs =
-      let s = sides W H sides-pass in
-      grid-pack W H (s .0) (s .1) W H (length f) (length i) (omega arith) (omega arith) cells-all (omega (arith, room .0, plane-fits W H))
+  pub sides-small : (W ≤ 240) × (H ≤ 240)
+  sides-small = sides W H sides-pass
+
+  -- so the frame goes into the plane in the first image, in either kind of grid
+  pub packs : (k : Around) → T (packFits (outsideOf k) (farOf k) W H (W + 15) (H + 15) (length f) (length i))
+  packs k =
+      let l = place-low k in
+      grid-pack W H (sides-small .0) (sides-small .1) (outsideOf k) (farOf k) W H (length f) (length i) (outside-low k) (omega arith) (omega arith) cells-all
+      (omega (arith, room .0, plane-fits W H))
+    where
+      place-low : (k : Around) → placeOf (farOf k) ≤ 15
+      place-low Free = omega arith
+      place-low Occupied = omega arith
 
   pub has-room : Room W H i j
   has-room = record { sides = sides-pass; first = room .0; second = room .1 }
 
   -- the frame is packed: the plane shows the grid that the frame is put into
-  module _ {i₁ : List ℕ} (p : FramePacked free W H (W + 15) (H + 15) f i i₁) where
+  module _ (k : Around) {i₁ : List ℕ} (p : FramePacked (outsideOf k) (farOf k) W H (W + 15) (H + 15) f i i₁) where
     first-past : Past W H i i₁
     first-past = kept-past W H (p .kept)
 
@@ -87,14 +105,25 @@ module _ (plan : List ℕ) (W H : ℕ) (f i j : List ℕ) (z : firstOf (operatio
     pub runs : Runnable plan W H i₁ j
     runs = let s = place-small plan plan-accepted in record { words = plan-length plan plan-accepted; across = s .0; down = s .1; room = packed-room }
 
-    first-shown : Shown W H 0 (put W H f) i₁ j
-    first-shown =
-        subst (λ (g : Point → ℕ). Shows (W + 15) (H + 15) g i₁) (ap (λ l. view free W H l) (low-bits f cells-clean) ∙ sym (put-whole W H f)) (p .shown)
+    first-shown : Shown (outsideOf k) W H 0 (put k W H f) i₁ j
+    first-shown = subst (λ (g : Point → ℕ). Shows (W + 15) (H + 15) g i₁) shows (p .shown)
+      where
+        v : ℕ
+        v = outsideOf k
+
+        shows : (λ q. view v W H (lowBits f) (q -ᵖ (pos (placeOf (farOf k)), pos (placeOf (farOf k))))) ≡ gridBytes k W H (put k W H f)
+        shows =
+            ap (λ l q. view v W H l (q -ᵖ (pos (placeOf (farOf k)), pos (placeOf (farOf k))))) (low-bits f cells-clean)
+            ∙ ap (λ s q. view v W H f (q -ᵖ s)) (far-corner k) ∙ sym (put-bytes k W H f)
 
     -- the stages were run: the last plane shows the last grid, and both images keep their lengths and what is past the grid
-    module _ {op : Operation} {n : ℕ} {i₂ j₂ : List ℕ} (e : Ended op plan W H i₁ j n i₂ j₂) where
+    module _ {op : Operation} (o : k ≡ around op) {n : ℕ} {i₂ j₂ : List ℕ} (e : Ended op plan W H i₁ j n i₂ j₂) where
       abbrev last : List ℕ
-      last = lastGrid op W H (planMasks plan) (put W H f)
+      last = lastGrid op W H (planMasks plan) (put (around op) W H f)
+
+      -- the operation's kind of grid
+      own-shown : Shown (outsideOf (around op)) W H 0 (put (around op) W H f) i₁ j
+      own-shown = subst (λ a. Shown (outsideOf a) W H 0 (put a W H f) i₁ j) o first-shown
 
       abbrev even : Bool
       even = eqb (n % 2) 0
@@ -126,8 +155,8 @@ module _ (plan : List ℕ) (W H : ℕ) (f i j : List ℕ) (z : firstOf (operatio
         cut-is =
             c .to
             ∙ ap (λ l. l ++ drop (W * H) (resultImage n i₂ j₂))
-            (shown-cut free (W + 15) (H + 15) last (standingImage n i₂ j₂) (e .shown (put W H f) first-shown) W H (distance op (placeX (getD plan 1 0)))
-            (distance op (placeY (getD plan 1 0)))
+            (shown-cut (outsideOf (around op)) (W + 15) (H + 15) last (standingImage n i₂ j₂) (e .shown (put (around op) W H f) own-shown) W H
+            (distance op (placeX (getD plan 1 0))) (distance op (placeY (getD plan 1 0)))
             ∙ cut-turn op plan W H f last (getD plan 1 0) refl (small .0) (small .1) refl)
 
         size : length turned ≡ W * H

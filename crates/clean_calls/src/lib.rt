@@ -3,7 +3,11 @@
 use cleaning::Operation;
 use words::Answer;
 ghost use mathlib.Core.Path.{_≡_};
+ghost use Prim.Native.Nat.{_+_, _≤_};
 ghost use Rattle.words.specs.Ground.{stated, refusal, firstOf};
+ghost use Rattle.grids.specs.Grid.{outsideOf};
+ghost use Rattle.planes.specs.Planes.{farOf, Packed};
+ghost use Rattle.cleaning.specs.Operation.{around};
 ghost use Rattle.cleaning.specs.declared.Operation.the-variants.{Dilation, Erosion, Opening, Closing};
 ghost use Rattle.cleaning.specs.Cleaning.{operationTests, Cleaned};
 
@@ -16,6 +20,28 @@ fn refused(plan: &[u32], w: usize, h: usize, frame: &[u8], first: &[u8], second:
         return Answer::Refused(ground);
     }
     frame_grounds::work_refusal(w, h, frame, first, second)
+}
+
+// The frame packed into a plane in the first image, in the kind of grid that the operation works in: erosion's frame stands at (15, 15), among occupied cells.
+fn packed(op: Operation, w: usize, h: usize, frame: &[u8], first: &mut [u8]) -> bool
+    requires { ⌜ (w ≤ 240) × (h ≤ 240) ⌝ }
+    ensures { λ r. ⌜ Packed (outsideOf (around op)) (farOf (around op)) w h (w + 15) (h + 15) (now (frame .entry)) (now (first .entry)) r
+        (now (first .exit)) ⌝ }
+{
+    match op {
+        Operation::Dilation => {
+            plane_pack_steps::pack(frame, first, w, h, w + 15, h + 15, false, 0)
+        }
+        Operation::Erosion => {
+            plane_pack_steps::pack(frame, first, w, h, w + 15, h + 15, true, 1)
+        }
+        Operation::Opening => {
+            plane_pack_steps::pack(frame, first, w, h, w + 15, h + 15, false, 0)
+        }
+        Operation::Closing => {
+            plane_pack_steps::pack(frame, first, w, h, w + 15, h + 15, false, 0)
+        }
+    }
 }
 
 // An operation. Returns the number of stages run.
@@ -35,7 +61,7 @@ fn clean(
     if let Answer::Refused(ground) = tested {
         return Answer::Refused(ground);
     }
-    plane_pack_steps::pack(frame, first, w, h, w + 15, h + 15, 0);
+    packed(op, w, h, frame, first);
     let n = result_steps::run(op, plan, w, h, first, second);
     let run = n as u32;
     Answer::Done(run)

@@ -4,7 +4,7 @@ use mathlib.Core.Logic.{⊎-elim}
 use mathlib.Core.List.{List, [], _∷_, _++_}
 use Prim.Native.Nat.{ℕ}
 use native.Mathlib.Omega.{arith}
-use lib.IntN.{pos}
+use lib.IntN.{pos, negsuc}
 use lib.ListN.{length, getD, drop, replicate}
 use Rattle.cleaning.specs.declared.Operation.the-variants.{Dilation, Erosion, Opening, Closing}
 use Rattle.plane.specs.Lists.{In}
@@ -80,18 +80,36 @@ opened : inTurn Opening 3 1 (1 ∷ 0 ∷ 1 ∷ []) (pos 0, pos 0) (7 ∷ []) ≡
 unfolding inTurn lastGrid once cells valueAt maskCells _+ᵖ_ negᵖ
 opened = refl
 
--- the offset (1, 0) moves a dilation to the right and an erosion to the left; an offset does not move an opening
+-- the offset (1, 0) moves a dilation to the right and an erosion to the left, where occupied cells come in from outside; an offset does not move an opening
 dilated-right : inTurn Dilation 3 1 (0 ∷ 1 ∷ 0 ∷ []) (pos 1, pos 0) [] ≡ 0 ∷ 0 ∷ 1 ∷ []
 unfolding inTurn lastGrid once cells valueAt _+ᵖ_ negᵖ
 dilated-right = refl
 
-eroded-left : inTurn Erosion 3 1 (0 ∷ 1 ∷ 0 ∷ []) (pos 1, pos 0) [] ≡ 1 ∷ 0 ∷ 0 ∷ []
+eroded-left : inTurn Erosion 3 1 (1 ∷ 0 ∷ 0 ∷ []) (pos 1, pos 0) [] ≡ 0 ∷ 0 ∷ 1 ∷ []
 unfolding inTurn lastGrid once cells valueAt _+ᵖ_ negᵖ
 eroded-left = refl
 
 opened-still : inTurn Opening 3 1 (0 ∷ 1 ∷ 0 ∷ []) (pos 1, pos 0) [] ≡ 0 ∷ 1 ∷ 0 ∷ []
 unfolding inTurn lastGrid once cells valueAt _+ᵖ_ negᵖ
 opened-still = refl
+
+-- two columns eroded by three, where a carrier that runs off the edge stays; opening still reads cells outside as free, and so does closing
+eroded-off : inTurn Erosion 2 1 (1 ∷ 1 ∷ []) (pos 0, pos 0) (7 ∷ []) ≡ 1 ∷ 1 ∷ []
+unfolding inTurn lastGrid once cells valueAt maskCells _+ᵖ_ negᵖ
+eroded-off = refl
+
+opened-off : inTurn Opening 2 1 (1 ∷ 1 ∷ []) (pos 0, pos 0) (7 ∷ []) ≡ 0 ∷ 0 ∷ []
+unfolding inTurn lastGrid once cells valueAt maskCells _+ᵖ_ negᵖ
+opened-off = refl
+
+closed-off : inTurn Closing 2 1 (1 ∷ 0 ∷ []) (pos 0, pos 0) (3 ∷ []) ≡ 1 ∷ 0 ∷ []
+unfolding inTurn lastGrid once cells valueAt maskCells _+ᵖ_ negᵖ
+closed-off = refl
+
+-- the offset (15, 15) reads past the grid's last column and row, where it is occupied; (−15, −15) reads its first byte
+eroded-far : (inTurn Erosion 1 1 (0 ∷ []) (pos 15, pos 15) [] ≡ 1 ∷ []) × (inTurn Erosion 1 1 (0 ∷ []) (negsuc 14, negsuc 14) [] ≡ 1 ∷ [])
+unfolding inTurn lastGrid once cells valueAt _+ᵖ_ negᵖ
+eroded-far = (refl, refl)
 
 -- ---- directly
 

@@ -3,7 +3,7 @@
 use mathlib.Core.Path.{_≡_}
 use mathlib.Core.Bool.{Bool, true, false, not}
 use mathlib.Core.List.{List}
-use Prim.Native.Nat.{ℕ, _+_, _≤_}
+use Prim.Native.Nat.{ℕ, _≤_}
 use lib.Dec.{T}
 use lib.ListN.{getD, take}
 use Rattle.plane.specs.Lists.{all}
@@ -12,31 +12,36 @@ use Rattle.masks.specs.Chain.{sumOf}
 use Rattle.masks.specs.Mask.{stage}
 use Rattle.grids.specs.Frame.{free, frame, over}
 use Rattle.grids.specs.Grid.{grid, put, once}
-use Rattle.grids.proofs.Putting.{frame-binary, frame-within, put-whole}
+use Rattle.grids.specs.declared.Around.the-variants.{Free}
+use Rattle.grids.proofs.Putting.{frame-binary, frame-within}
 use Rattle.grids.proofs.Stage.{over-binary}
-use Rattle.cleaning.specs.Operation.{through}
-use Rattle.cleaning.proofs.Turn.{turn, passed}
+use Rattle.cleaning.specs.declared.Operation.{Operation}
+use Rattle.cleaning.specs.declared.Operation.the-variants.{Opening, Closing}
+use Rattle.cleaning.specs.Operation.{around, asRead, through}
+use Rattle.cleaning.proofs.Turn.{turn, firstKind, passed}
 use Rattle.cleaning.proofs.Within.{Small, Kept, kept, dilation-within, erosion-within, erosion-kept, first-stages, small-part}
 
-pub after-stages : (erode : Bool) (W H : ℕ) (f ms : List ℕ) (k : ℕ) → T (all stage ms) → Small ms → ((i : ℕ) → getD f i 0 ≤ 1)
-    → grid free W H (through (once erode free W H) (take k ms) (put W H f)) ≡ over erode (sumOf (take k ms)) (frame free W H f)
-after-stages erode W H f ms k t s v =
-    turn erode W H (take k ms) (frame free W H f) (put W H f) (frame-binary W H f v)
-    (kept erode W H (take k ms) (frame free W H f) (first-stages k ms t) (small-part k ms t s) (frame-within W H f)) (put-whole W H f)
+pub after-stages : (op : Operation) (W H : ℕ) (f ms : List ℕ) (k : ℕ) → T (all stage ms) → Small ms → ((i : ℕ) → getD f i 0 ≤ 1)
+    → grid (around op) W H (through (once (firstKind op) (around op) W H) (take k ms) (put (around op) W H f))
+    ≡ over (firstKind op) (sumOf (take k ms)) (asRead op W H f)
+after-stages op W H f ms k t s v = passed op W H f (take k ms) (first-stages k ms t) (small-part k ms t s) v
 
--- all stages by one kind, and then the first k by the other
+-- opening and closing: all stages by one kind, and then the first k by the other
 pub after-second : (erode : Bool) (W H : ℕ) (f ms : List ℕ) (k : ℕ) → T (all stage ms) → Small ms → ((i : ℕ) → getD f i 0 ≤ 1)
-    → grid free W H (through (once erode free W H) (take k ms) (through (once (not erode) free W H) ms (put W H f)))
+    → grid Free W H (through (once erode Free W H) (take k ms) (through (once (not erode) Free W H) ms (put Free W H f)))
     ≡ over erode (sumOf (take k ms)) (over (not erode) (sumOf ms) (frame free W H f))
 after-second erode W H f ms k t s v =
-    turn erode W H (take k ms) (over (not erode) (sumOf ms) F) (through (once (not erode) free W H) ms (put W H f))
-    (over-binary (not erode) (sumOf ms) F (frame-binary W H f v)) (stays erode) (passed (not erode) W H f ms t s v)
+    turn erode Free W H (take k ms) (over (not erode) (sumOf ms) F) (through (once (not erode) Free W H) ms (put Free W H f))
+    (over-binary (not erode) (sumOf ms) F (frame-binary Free W H f v)) (stays erode) (before erode)
   where
     F : Point → ℕ
     F = frame free W H f
 
-    stays : (e : Bool) → Kept e (W + 15) (H + 15) (take k ms) (over (not e) (sumOf ms) F)
-    stays true =
-        erosion-kept (W + 15) (H + 15) (take k ms) (over false (sumOf ms) F) (first-stages k ms t) (dilation-within W H ms F s (frame-within W H f))
+    stays : (e : Bool) → Kept e Free W H (take k ms) (over (not e) (sumOf ms) F)
+    stays true = erosion-kept W H (take k ms) (over false (sumOf ms) F) (first-stages k ms t) (dilation-within W H ms F s (frame-within Free W H f))
     stays false =
-        kept false W H (take k ms) (over true (sumOf ms) F) (first-stages k ms t) (small-part k ms t s) (erosion-within W H ms F t (frame-within W H f))
+        kept false W H (take k ms) (over true (sumOf ms) F) (first-stages k ms t) (small-part k ms t s) (erosion-within W H ms F t (frame-within Free W H f))
+
+    before : (e : Bool) → grid Free W H (through (once (not e) Free W H) ms (put Free W H f)) ≡ over (not e) (sumOf ms) F
+    before true = passed Closing W H f ms t s v
+    before false = passed Opening W H f ms t s v

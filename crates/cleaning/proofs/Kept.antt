@@ -21,14 +21,15 @@ use Rattle.grids.specs.Frame.{gridSize, badSize, shortImage}
 use Rattle.grids.specs.Grid.{grid, laid, workTests}
 use Rattle.grids.proofs.Pictures.{length-cells}
 use Rattle.cleaning.specs.Cleaning.{stagesRun, part, operationTests, Cleaned}
-use Rattle.cleaning.specs.Operation.{Direct, inTurn, outside, asRead, lastGrid, readAt}
+use Rattle.cleaning.specs.Operation.{Direct, inTurn, around, asRead, lastGrid, readAt}
 use Rattle.cleaning.proofs.Plans.{accepted-direct}
 use Rattle.cleaning.proofs.Starts.{over-length, over-past, frame-in-grid, hand, hand-start}
 
 -- the single stages give as many cells as the frame has
 pub turn-length : (op : Operation) (W H : ℕ) (f : List ℕ) (d : Point) (ms : List ℕ) → length (inTurn op W H f d ms) ≡ W * H
 unfolding inTurn
-turn-length op W H f d ms = length-cells W H (λ p. grid (outside op) W H (lastGrid op W H ms (laid W H (asRead op W H f))) (readAt op d p)) ∙ mul-comm H W
+turn-length op W H f d ms =
+    length-cells W H (λ p. grid (around op) W H (lastGrid op W H ms (laid (around op) W H (asRead op W H f))) (readAt op d p)) ∙ mul-comm H W
 
 pub can-clean : (op : Operation) (plan : List ℕ) (W H : ℕ) (f i j : List ℕ) → firstOf (operationTests plan W H f i j) ≡ 0
     → (s : Answer) × (i′ : List ℕ) × (j′ : List ℕ) × Cleaned op plan W H f i j s i′ j′

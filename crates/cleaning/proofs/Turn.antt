@@ -21,12 +21,15 @@ use Rattle.masks.specs.Mask.{maskPoints, stage}
 use Rattle.masks.proofs.Sum.{sums-is}
 use Rattle.grids.specs.Frame.{free, full, greater, lesser, frame, occupied, over}
 use Rattle.grids.specs.Grid.{grid, laid, put, once}
+use Rattle.grids.specs.declared.Around.{Around}
+use Rattle.grids.specs.declared.Around.the-variants.{Free, Occupied}
 use Rattle.grids.specs.Image.{cells}
 use Rattle.grids.proofs.Fold.{dilated-same, dilated-sums, eroded-same, eroded-sums}
-use Rattle.grids.proofs.Pictures.{Within, view-within, getD-cells, length-cells}
-use Rattle.grids.proofs.Putting.{frame-binary, frame-within, put-whole}
+use Rattle.grids.proofs.Pictures.{Within, getD-cells, length-cells}
+use Rattle.grids.proofs.Putting.{within-more, InGrid, laid-whole, frame-binary, frame-within, put-whole}
 use Rattle.grids.proofs.Stage.{greater-laws, lesser-laws, Binary, over-binary, D-set, E-set, once-is}
-use Rattle.cleaning.specs.Operation.{made, Says, Direct, asRead, through, lastGrid, readAt, inTurn}
+use Rattle.cleaning.specs.Operation.{made, Says, Direct, around, asRead, through, lastGrid, readAt, inTurn}
+use Rattle.cleaning.proofs.Fixed.{says-same}
 use Rattle.cleaning.proofs.Within.{Small, Kept, kept, dilation-within, erosion-within, erosion-kept}
 
 -- ---- a picture taken through a sum
@@ -56,10 +59,10 @@ over-cons erode m ms f =
 
 -- ---- stage after stage
 
-pub turn : (erode : Bool) (W H : ℕ) (ms : List ℕ) (f : Point → ℕ) (g : List ℕ) → Binary f → Kept erode (W + 15) (H + 15) ms f → grid free W H g ≡ f
-    → grid free W H (through (once erode free W H) ms g) ≡ over erode (sumOf ms) f
-turn erode W H [] f g b k e = e ∙ sym (over-none erode f b)
-turn erode W H (m ∷ ms) f g b k e = turn erode W H ms F (once erode free W H m g) c rest here ∙ over-cons erode m ms f
+pub turn : (erode : Bool) (k : Around) (W H : ℕ) (ms : List ℕ) (f : Point → ℕ) (g : List ℕ) → Binary f → Kept erode k W H ms f → grid k W H g ≡ f
+    → grid k W H (through (once erode k W H) ms g) ≡ over erode (sumOf ms) f
+turn erode k W H [] f g b q e = e ∙ sym (over-none erode f b)
+turn erode k W H (m ∷ ms) f g b q e = turn erode k W H ms F (once erode k W H m g) c rest here ∙ over-cons erode m ms f
   where
     -- the picture after the first stage
     F : Point → ℕ
@@ -68,19 +71,15 @@ turn erode W H (m ∷ ms) f g b k e = turn erode W H ms F (once erode free W H m
     c : Binary F
     c = over-binary erode (maskPoints m) f b
 
-    Inside : (Point → ℕ) → Type 0
-    Inside = Within 0 (W + 15) (H + 15)
+    first : InGrid k W H F
+    first = subst (InGrid k W H) (sym (over-cons erode m [] f) ∙ over-none erode F c) (q 1)
 
-    first : Inside F
-    first = subst Inside (sym (over-cons erode m [] f) ∙ over-none erode F c) (k 1)
+    rest : Kept erode k W H ms F
+    rest j = subst (InGrid k W H) (sym (over-cons erode m (take j ms) f)) (q (suc j))
 
-    rest : Kept erode (W + 15) (H + 15) ms F
-    rest j = subst Inside (sym (over-cons erode m (take j ms) f)) (k (suc j))
-
-    here : grid free W H (once erode free W H m g) ≡ F
+    here : grid k W H (once erode k W H m g) ≡ F
     here =
-        ap (grid free W H) (once-is erode free W H m g) ∙ ap (λ z. grid free W H (laid W H (over erode (maskPoints m) z))) e
-        ∙ fun-ext (view-within 0 (W + 15) (H + 15) F first)
+        ap (grid k W H) (once-is erode k W H m g) ∙ ap (λ z. grid k W H (laid k W H (over erode (maskPoints m) z))) e ∙ laid-whole k W H F first
 
 -- ---- the four operations
 
@@ -103,15 +102,29 @@ whole-set Erosion P f b = E-set P f b
 whole-set Opening P f b = ≐-trans (D-set P (over true P f) (over-binary true P f b)) (⊕-cong (E-set P f b) (≐-refl (In P)))
 whole-set Closing P f b = ≐-trans (E-set P (over false P f) (over-binary false P f b)) (⊖-cong (D-set P f b) (≐-refl (In P)))
 
+-- the kind of stage of the first pass
+abbrev pub firstKind : Operation → Bool
+firstKind Dilation = false
+firstKind Erosion = true
+firstKind Opening = true
+firstKind Closing = false
+
+-- in the first pass nothing of the frame is lost
+pub first-kept : (op : Operation) (W H : ℕ) (f ms : List ℕ) → T (all stage ms) → Small ms → Kept (firstKind op) (around op) W H ms (asRead op W H f)
+first-kept Dilation W H f ms t s = kept false W H ms (frame free W H f) t s (frame-within Free W H f)
+first-kept Erosion W H f ms t s = kept true W H ms (frame full W H f) t s (frame-within Occupied W H f)
+first-kept Opening W H f ms t s = erosion-kept W H ms (frame free W H f) t (within-more (frame free W H f) W H 15 15 (frame-within Free W H f))
+first-kept Closing W H f ms t s = kept false W H ms (frame free W H f) t s (frame-within Free W H f)
+
 -- one pass: the frame through all the stages, by one kind
-pub passed : (erode : Bool) (W H : ℕ) (f ms : List ℕ) → T (all stage ms) → Small ms → ((i : ℕ) → getD f i 0 ≤ 1)
-    → grid free W H (through (once erode free W H) ms (put W H f)) ≡ over erode (sumOf ms) (frame free W H f)
-passed erode W H f ms t s v =
-    let F = frame free W H f in
-    turn erode W H ms F (put W H f) (frame-binary W H f v) (kept erode W H ms F t s (frame-within W H f)) (put-whole W H f)
+pub passed : (op : Operation) (W H : ℕ) (f ms : List ℕ) → T (all stage ms) → Small ms → ((i : ℕ) → getD f i 0 ≤ 1)
+    → grid (around op) W H (through (once (firstKind op) (around op) W H) ms (put (around op) W H f)) ≡ over (firstKind op) (sumOf ms) (asRead op W H f)
+passed op W H f ms t s v =
+    turn (firstKind op) (around op) W H ms (asRead op W H f) (put (around op) W H f) (frame-binary (around op) W H f v) (first-kept op W H f ms t s)
+    (put-whole (around op) W H f)
 
 pub last-whole : (op : Operation) (W H : ℕ) (f ms : List ℕ) → T (all stage ms) → Small ms → ((i : ℕ) → getD f i 0 ≤ 1)
-    → grid free W H (lastGrid op W H ms (put W H f)) ≡ whole op (sumOf ms) (frame free W H f)
+    → grid (around op) W H (lastGrid op W H ms (put (around op) W H f)) ≡ whole op (sumOf ms) (asRead op W H f)
 unfolding lastGrid
 last-whole op W H f ms t s v = go op
   where
@@ -119,23 +132,20 @@ last-whole op W H f ms t s v = go op
     F = frame free W H f
 
     b : Binary F
-    b = frame-binary W H f v
+    b = frame-binary Free W H f v
 
     w : Within 0 W H F
-    w = frame-within W H f
+    w = frame-within Free W H f
 
-    one : (erode : Bool) → grid free W H (through (once erode free W H) ms (put W H f)) ≡ over erode (sumOf ms) F
-    one erode = passed erode W H f ms t s v
-
-    go : (op : Operation) → grid free W H (lastGrid op W H ms (put W H f)) ≡ whole op (sumOf ms) F
-    go Dilation = one false
-    go Erosion = one true
+    go : (op : Operation) → grid (around op) W H (lastGrid op W H ms (put (around op) W H f)) ≡ whole op (sumOf ms) (asRead op W H f)
+    go Dilation = passed Dilation W H f ms t s v
+    go Erosion = passed Erosion W H f ms t s v
     go Opening =
-        turn false W H ms (over true (sumOf ms) F) (through (once true free W H) ms (put W H f)) (over-binary true (sumOf ms) F b)
-        (kept false W H ms (over true (sumOf ms) F) t s (erosion-within W H ms F t w)) (one true)
+        turn false Free W H ms (over true (sumOf ms) F) (through (once true Free W H) ms (put Free W H f)) (over-binary true (sumOf ms) F b)
+        (kept false W H ms (over true (sumOf ms) F) t s (erosion-within W H ms F t w)) (passed Opening W H f ms t s v)
     go Closing =
-        turn true W H ms (over false (sumOf ms) F) (through (once false free W H) ms (put W H f)) (over-binary false (sumOf ms) F b)
-        (erosion-kept (W + 15) (H + 15) ms (over false (sumOf ms) F) t (dilation-within W H ms F s w)) (one false)
+        turn true Free W H ms (over false (sumOf ms) F) (through (once false Free W H) ms (put Free W H f)) (over-binary false (sumOf ms) F b)
+        (erosion-kept W H ms (over false (sumOf ms) F) t (dilation-within W H ms F s w)) (passed Closing W H f ms t s v)
 
 -- ---- directly
 
@@ -170,8 +180,8 @@ pub turn-direct : (op : Operation) (W H : ℕ) (f : List ℕ) (d : Point) (ms : 
     → Direct op W H f A (inTurn op W H f d ms)
 unfolding inTurn put
 turn-direct op W H f d ms A t s v e =
-    let g = frame free W H f in
-    let b = frame-binary W H f v in
+    let g = asRead op W H f in
+    let b = frame-binary (around op) W H f v in
     let S = sumOf ms in
     let is = ≐-trans (λ p. whole-set op S g b (readAt op d p)) (made-moved op (occupied g) (In S) A d e) in
     subst (λ z. Direct op W H f A (cells W H (λ p. z (readAt op d p)))) (sym (last-whole op W H f ms t s v))
@@ -185,11 +195,7 @@ made-same Opening X A B e = ⊕-cong (⊖-cong (≐-refl X) e) e
 made-same Closing X A B e = ⊖-cong (⊕-cong (≐-refl X) e) e
 
 pub same-direct : (op : Operation) (W H : ℕ) (f : List ℕ) (A B : PointSet) (r : List ℕ) → A ≐ B → Direct op W H f A r → Direct op W H f B r
-same-direct op W H f A B r e D = record { size = D .size; cell = λ x y h k. go (getD r (y * W + x) 0) (same (pos x, pos y)) (D .cell x y h k) }
+same-direct op W H f A B r e D = record { size = D .size; cell = λ x y h k. says-same (getD r (y * W + x) 0) (same (pos x, pos y)) (D .cell x y h k) }
   where
     same : made op (occupied (asRead op W H f)) A ≐ made op (occupied (asRead op W H f)) B
     same = made-same op (occupied (asRead op W H f)) A B e
-
-    go : {P Q : Type 0} (v : ℕ) → P ↔ Q → Says v P → Says v Q
-    go v q (inl t) = inl (t .0, q .0 (t .1))
-    go v q (inr t) = inr (t .0, λ z. t .1 (q .1 z))

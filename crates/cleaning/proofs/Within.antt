@@ -1,43 +1,72 @@
--- Nothing is lost in a grid: erosion by a sum of stages leaves nothing outside the frame, and dilation reaches no farther than the sum's cells do.
+-- Nothing is lost in a grid: a sum of stages reaches no farther than its cells do, dilation to the right and down, in the first kind of grid, and erosion to
+-- the left and up, in the second; and in the first kind erosion leaves nothing outside the frame.
 -- What holds of the sum of all stages holds of the first k, since a cell of theirs and one of the others' add up to a cell of the whole.
-use mathlib.Core.Path.{_≡_, refl, sym, _∙_, ap, subst}
+use mathlib.Core.Path.{_≡_, refl, sym, _∙_, ap, ap₂, subst}
 use mathlib.Core.Logic.{_⊎_, inl, inr}
 use mathlib.Core.Bool.{Bool, true, false, not}
 use mathlib.Core.List.{List, [], _∷_, map}
-use Prim.Native.Nat.{ℕ, zero, suc, _+_, _≤_}
+use Prim.Native.Nat.{ℕ, zero, suc, _+_, _-_, _≤_}
 use native.Mathlib.Omega.{arith}
 use lib.Dec.{T, not-T}
 use lib.IntN.{pos}
 use lib.ListN.{take, drop}
 use Rattle.plane.specs.Lists.{In, all}
 use Rattle.plane.specs.Point.{Point, _+ᵖ_, _-ᵖ_, Cell, point}
-use Rattle.plane.proofs.Algebra.{subᵖ-cancel}
+use Rattle.plane.proofs.Algebra.{+ᵖ-assoc, +ᵖ-origin, subᵖ-cancel}
 use Rattle.plane.proofs.Member.{In-map}
 use Rattle.plane.proofs.Tests.{T-and, T-dec, clash}
 use Rattle.masks.specs.Chain.{sumOf}
 use Rattle.masks.specs.Mask.{maskCells, stage}
 use Rattle.masks.proofs.Cells.{pair, addCell, sumCells, In-sums, sum-cells, Low, sum-low}
 use Rattle.grids.proofs.Pictures.{inside, Within, inside-add, inside-both}
-use Rattle.grids.proofs.Putting.{within-more}
 use Rattle.grids.specs.Frame.{over}
-use Rattle.grids.proofs.Stage.{greatest-zero, least-zero}
+use Rattle.grids.specs.Grid.{outsideOf, corner}
+use Rattle.grids.specs.declared.Around.{Around}
+use Rattle.grids.specs.declared.Around.the-variants.{Free, Occupied}
+use Rattle.grids.proofs.Putting.{InGrid}
+use Rattle.grids.proofs.Stage.{greatest-zero, least-zero, least-one}
 
 -- ---- one list of cells
 
-dilated-within : (cs : List Cell) (f : Point → ℕ) (W H a b : ℕ) → Within 0 W H f → ((c : Cell) → In cs c → (c .0 ≤ a) × (c .1 ≤ b))
-    → Within 0 (W + a) (H + b) (over false (map point cs) f)
-dilated-within cs f W H a b w far p t =
-    greatest-zero (λ q. f (p -ᵖ q)) (map point cs)
-    (λ q h. w (p -ᵖ q) (not-T (inside W H (p -ᵖ q)) (λ u. clash (inside (W + a) (H + b) p) t (reach q h u))))
+-- the kind of grid in which a stage loses nothing, since the value outside is what the stage makes of no cells: free by dilation, occupied by erosion
+abbrev pub own : Bool → Around
+own false = Free
+own true = Occupied
+
+-- the cell that a point a of the stage covers at p
+abbrev covered : Bool → Point → Point → Point
+covered false p a = p -ᵖ a
+covered true p a = p +ᵖ a
+
+-- where all cells covered are as outside, so is what the stage makes of them
+all-outside : (erode : Bool) (P : List Point) (f : Point → ℕ) (p : Point) → ((a : Point) → In P a → f (covered erode p a) ≡ outsideOf (own erode))
+    → over erode P f p ≡ outsideOf (own erode)
+all-outside false P f p h = greatest-zero (λ a. f (p -ᵖ a)) P h
+all-outside true P f p h = least-one (λ a. f (p +ᵖ a)) P h
+
+-- a cell no farther than 15 that covers a cell of the frame at p: then p lies in the grid, which goes 15 farther to the right and down, or to the left and up
+reach : (erode : Bool) (W H : ℕ) (p : Point) (c : Cell) → c .0 ≤ 15 → c .1 ≤ 15 → T (inside W H (covered erode p (point c)))
+    → T (inside (W + 15) (H + 15) (p +ᵖ corner (own erode)))
+unfolding _+ᵖ_
+reach false W H p c h k u =
+    subst (λ z. T (inside (W + 15) (H + 15) z)) (subᵖ-cancel p (point c) ∙ sym (+ᵖ-origin p))
+    (inside-add W H (W + 15) (H + 15) (c .0) (c .1) (omega arith) (omega arith) (p -ᵖ point c) u)
+reach true W H p c h k u =
+    subst (λ z. T (inside (W + 15) (H + 15) z)) (+ᵖ-assoc p (point c) (point (15 - c .0, 15 - c .1)) ∙ ap (λ z. p +ᵖ z) (pair (omega arith) (omega arith)))
+    (inside-add W H (W + 15) (H + 15) (15 - c .0) (15 - c .1) (omega arith) (omega arith) (p +ᵖ point c) u)
   where
-    reach : (q : Point) → In (map point cs) q → T (inside W H (p -ᵖ q)) → T (inside (W + a) (H + b) p)
-    reach q h u =
-        let r = In-map point cs q .0 h in
-        let k = far (r .0) (r .1) in
-        let x = k .0 in
-        let y = k .1 in
-        let v = inside-add W H (W + a) (H + b) (r .0 .0) (r .0 .1) (omega arith) (omega arith) (p -ᵖ q) u in
-        subst (λ z. T (inside (W + a) (H + b) z)) (ap (λ z. p -ᵖ q +ᵖ z) (sym (r .2)) ∙ subᵖ-cancel p q) v
+    pair : {x y : ℕ} → x ≡ 15 → y ≡ 15 → point (x, y) ≡ point (15, 15)
+    pair e f = ap₂ (λ x y. point (x, y)) e f
+
+-- a picture of W columns and H rows taken through cells no farther than 15 lies in the grid of the stage's own kind
+own-within : (erode : Bool) (cs : List Cell) (f : Point → ℕ) (W H : ℕ) → Within (outsideOf (own erode)) W H f
+    → ((c : Cell) → In cs c → (c .0 ≤ 15) × (c .1 ≤ 15)) → InGrid (own erode) W H (over erode (map point cs) f)
+own-within erode cs f W H w far p t = all-outside erode (map point cs) f p (λ q h.
+    let r = In-map point cs q .0 h in
+    let k = far (r .0) (r .1) in
+    w (covered erode p q) (not-T (inside W H (covered erode p q)) (λ u.
+    clash (inside (W + 15) (H + 15) (p +ᵖ corner (own erode))) t
+    (reach erode W H p (r .0) (k .0) (k .1) (subst (λ z. T (inside W H (covered erode p z))) (r .2) u)))))
 
 eroded-within : (cs : List Cell) (f : Point → ℕ) (W H : ℕ) → Within 0 W H f → Low cs → Within 0 W H (over true (map point cs) f)
 eroded-within cs f W H w l p t = go (T-dec (inside W H (p +ᵖ point (l .x)))) (T-dec (inside W H (p +ᵖ point (l .y))))
@@ -96,19 +125,32 @@ small-part k ms t s c h =
 
 -- ---- nothing is lost
 
+-- the first kind of grid starts at (0, 0)
+pub from-free : (W H : ℕ) (f : Point → ℕ) → InGrid Free W H f → Within 0 (W + 15) (H + 15) f
+from-free W H f w p t = w p (subst (λ z. T (not (inside (W + 15) (H + 15) z))) (sym (+ᵖ-origin p)) t)
+
+pub to-free : (W H : ℕ) (f : Point → ℕ) → Within 0 (W + 15) (H + 15) f → InGrid Free W H f
+to-free W H f w p t = w p (subst (λ z. T (not (inside (W + 15) (H + 15) z))) (+ᵖ-origin p) t)
+
 pub dilation-within : (W H : ℕ) (ms : List ℕ) (f : Point → ℕ) → Small ms → Within 0 W H f → Within 0 (W + 15) (H + 15) (over false (sumOf ms) f)
-dilation-within W H ms f s w = subst (λ P. Within 0 (W + 15) (H + 15) (over false P f)) (sym (sum-cells ms)) (dilated-within (sumCells ms) f W H 15 15 w s)
+dilation-within W H ms f s w =
+    subst (λ P. Within 0 (W + 15) (H + 15) (over false P f)) (sym (sum-cells ms))
+    (from-free W H (over false (map point (sumCells ms)) f) (own-within false (sumCells ms) f W H w s))
 
 pub erosion-within : (W H : ℕ) (ms : List ℕ) (f : Point → ℕ) → T (all stage ms) → Within 0 W H f → Within 0 W H (over true (sumOf ms) f)
 erosion-within W H ms f t w = subst (λ P. Within 0 W H (over true P f)) (sym (sum-cells ms)) (eroded-within (sumCells ms) f W H w (sum-low ms t))
 
--- after each number of stages the whole picture lies within W columns and H rows
-abbrev pub Kept : Bool → ℕ → ℕ → List ℕ → (Point → ℕ) → Type 0
-Kept erode W H ms f = (k : ℕ) → Within 0 W H (over erode (sumOf (take k ms)) f)
+-- after each number of stages the whole picture lies in the grid
+abbrev pub Kept : Bool → Around → ℕ → ℕ → List ℕ → (Point → ℕ) → Type 0
+Kept erode k W H ms f = (j : ℕ) → InGrid k W H (over erode (sumOf (take j ms)) f)
 
-pub erosion-kept : (W H : ℕ) (ms : List ℕ) (f : Point → ℕ) → T (all stage ms) → Within 0 W H f → Kept true W H ms f
-erosion-kept W H ms f t w k = erosion-within W H (take k ms) f (first-stages k ms t) w
+-- in the grid of the stages' own kind a picture of the frame's columns and rows does
+pub kept : (erode : Bool) (W H : ℕ) (ms : List ℕ) (f : Point → ℕ) → T (all stage ms) → Small ms → Within (outsideOf (own erode)) W H f
+    → Kept erode (own erode) W H ms f
+kept erode W H ms f t s w j =
+    subst (λ P. InGrid (own erode) W H (over erode P f)) (sym (sum-cells (take j ms))) (own-within erode (sumCells (take j ms)) f W H w (small-part j ms t s))
 
-pub kept : (erode : Bool) (W H : ℕ) (ms : List ℕ) (f : Point → ℕ) → T (all stage ms) → Small ms → Within 0 W H f → Kept erode (W + 15) (H + 15) ms f
-kept false W H ms f t s w k = dilation-within W H (take k ms) f (small-part k ms t s) w
-kept true W H ms f t s w k = erosion-kept (W + 15) (H + 15) ms f t (within-more f W H 15 15 w) k
+-- and by erosion in the first kind of grid any picture that lies in it
+pub erosion-kept : (W H : ℕ) (ms : List ℕ) (f : Point → ℕ) → T (all stage ms) → Within 0 (W + 15) (H + 15) f → Kept true Free W H ms f
+erosion-kept W H ms f t w j =
+    to-free W H (over true (sumOf (take j ms)) f) (erosion-within (W + 15) (H + 15) (take j ms) f (first-stages j ms t) w)

@@ -8,18 +8,24 @@ use lib.IntN.{pos}
 use lib.ListN.{length, getD}
 use Rattle.plane.specs.Point.{Point, PointSet, _+ᵖ_, _-ᵖ_, dilation, erosion, opening, closing}
 use Rattle.grids.specs.Image.{cells}
-use Rattle.grids.specs.Frame.{free, frame, occupied}
-use Rattle.grids.specs.Grid.{grid, laid, once}
+use Rattle.grids.specs.Frame.{frame, occupied}
+use Rattle.grids.specs.Grid.{outsideOf, grid, laid, once}
+use Rattle.grids.specs.declared.Around.{Around}
+use Rattle.grids.specs.declared.Around.the-variants.{Free, Occupied}
 use Rattle.cleaning.specs.declared.Operation.{Operation}
 use Rattle.cleaning.specs.declared.Operation.the-variants.{Dilation, Erosion, Opening, Closing}
 
--- how an operation reads cells outside the frame and outside its grid: as free
-abbrev pub outside : Operation → ℕ
-outside op = free
+-- the kind of grid that an operation works in, which says how it reads cells outside the frame: as occupied for erosion alone, as free for dilation, and for
+-- opening and closing in both their halves
+abbrev pub around : Operation → Around
+around Dilation = Free
+around Erosion = Occupied
+around Opening = Free
+around Closing = Free
 
 -- the frame on the plane, as the operation's call reads it
 abbrev pub asRead : Operation → ℕ → ℕ → List ℕ → Point → ℕ
-asRead op W H f = frame (outside op) W H f
+asRead op W H f = frame (outsideOf (around op)) W H f
 
 -- ---- directly
 
@@ -49,7 +55,7 @@ through stage (m ∷ ms) g = through stage ms (stage m g)
 
 -- through all the stages by dilation, or by erosion
 abbrev pub allOnce : Bool → Operation → ℕ → ℕ → List ℕ → List ℕ → List ℕ
-allOnce erode op W H ms g = through (once erode (outside op) W H) ms g
+allOnce erode op W H ms g = through (once erode (around op) W H) ms g
 
 -- the last grid: by dilation, by erosion, for opening by erosion and then through all of them again by dilation, for closing the other way round
 unfoldable pub lastGrid : Operation → ℕ → ℕ → List ℕ → List ℕ → List ℕ
@@ -68,4 +74,4 @@ readAt Closing d p = p
 -- what the single stages ms give in turn with the offset d, as W × H cells: the frame, as the operation reads it, is put into a grid, the grid is taken
 -- through the stages, and the result is read there; outside the grid it reads as plane cells there do
 unfoldable pub inTurn : Operation → ℕ → ℕ → List ℕ → Point → List ℕ → List ℕ
-inTurn op W H f d ms = cells W H (λ p. grid (outside op) W H (lastGrid op W H ms (laid W H (asRead op W H f))) (readAt op d p))
+inTurn op W H f d ms = cells W H (λ p. grid (around op) W H (lastGrid op W H ms (laid (around op) W H (asRead op W H f))) (readAt op d p))

@@ -1,7 +1,8 @@
 -- A part of the live frame on planes of its own: sizes fit, and rows cut from the last plane are rows of what the stages give in turn.
 use mathlib.Core.Path.{_≡_, refl, sym, _∙_, ap, subst}
+use mathlib.Core.Bool.{false}
 use mathlib.Core.List.{List}
-use Prim.Native.Nat.{ℕ, _+_, _-_, _*_, _≤_, _<_}
+use Prim.Native.Nat.{ℕ, _+_, _-_, _*_, _≤_, _<_, zero-le}
 use native.Mathlib.Omega.{arith}
 use native.Mathlib.Nat.{mul-comm, mul-le-mul, mul-le-mul-right, add-mul}
 use lib.Dec.{T}
@@ -11,10 +12,11 @@ use Rattle.plane.specs.Point.{Point, _+ᵖ_}
 use Rattle.words.specs.Word.{placeX, placeY}
 use Rattle.shapes.specs.Plan.{planMasks, planOffset}
 use Rattle.grids.specs.Frame.{free}
-use Rattle.grids.specs.Grid.{grid, put}
-use Rattle.grids.specs.Image.{view, cells}
+use Rattle.grids.specs.Grid.{gridBytes, put}
+use Rattle.grids.specs.declared.Around.the-variants.{Free}
+use Rattle.grids.specs.Image.{view}
 use Rattle.grids.proofs.Pictures.{getD-cells, length-cells}
-use Rattle.grids.proofs.Putting.{put-whole}
+use Rattle.grids.proofs.Putting.{put-bytes}
 use Rattle.ranges.specs.Ranges.{overFront}
 use Rattle.cuts.specs.Cuts.{cutOut}
 use Rattle.planes.specs.Planes.{byteRows, planeSize, planeCells, Shows, lowBits, packFits, FramePacked, unpackFits}
@@ -56,27 +58,27 @@ module _ {plan part d : List ℕ} {W e s t : ℕ} (E : EndPart plan W e part s t
       let m = mul-le-mul u v in
       omega (arith, m)
 
-  pub end-packs : T (packFits free W e (W + 15) (e + 15) (length part) 2058)
+  pub end-packs : T (packFits free false W e (W + 15) (e + 15) (length part) 2058)
   end-packs =
-      grid-pack W e (most .0) (most .1) W e (length part) 2058 (omega arith) (omega arith) (omega (arith, E .size, mul-comm W e)) plane-small
+      grid-pack W e (most .0) (most .1) free false W e (length part) 2058 zero-le (omega arith) (omega arith) (omega (arith, E .size, mul-comm W e)) plane-small
 
   module _ (first second : List ℕ) {first₁ : List ℕ} (l : length first ≡ 2058) (m : length second ≡ 2058)
-      (p : FramePacked free W e (W + 15) (e + 15) part first first₁) where
+      (p : FramePacked free false W e (W + 15) (e + 15) part first first₁) where
     pub end-turnable : Turnable plan W e first₁ second
     end-turnable = record {
       words = E .words;
       room = record { sides = E .sides; first = omega (arith, plane-small, p .kept .len, l); second = omega (arith, plane-small, m) };
     }
 
-    end-shown : Shown W e 0 (put W e (lowBits part)) first₁ second
-    end-shown = subst (λ (g : Point → ℕ). Shows (W + 15) (e + 15) g first₁) (sym (put-whole W e (lowBits part))) (p .shown)
+    end-shown : Shown free W e 0 (put Free W e (lowBits part)) first₁ second
+    end-shown = subst (λ (g : Point → ℕ). Shows (W + 15) (e + 15) g first₁) (sym (put-bytes Free W e (lowBits part))) (p .shown)
 
     module _ {n : ℕ} {first₂ second₂ : List ℕ} (q : Ended Dilation plan W e first₁ second n first₂ second₂) where
       abbrev last : List ℕ
-      last = lastGrid Dilation W e (planMasks plan) (put W e (lowBits part))
+      last = lastGrid Dilation W e (planMasks plan) (put Free W e (lowBits part))
 
-      last-shown : Shows (W + 15) (e + 15) (grid free W e last) (standingImage n first₂ second₂)
-      last-shown = q .shown (put W e (lowBits part)) end-shown
+      last-shown : Shows (W + 15) (e + 15) (gridBytes Free W e last) (standingImage n first₂ second₂)
+      last-shown = q .shown (put Free W e (lowBits part)) end-shown
 
       -- the rows that are cut from the plane that stands
       abbrev x : ℕ

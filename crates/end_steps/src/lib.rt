@@ -52,7 +52,7 @@ fn work_out(plan: &[u32], w: usize, e: usize, part: &[u8], s: usize, t: usize, d
 {
     let mut first: [u8; 2058] = [0; 2058];
     let mut second: [u8; 2058] = [0; 2058];
-    plane_pack_steps::pack(part, &mut first, w, e, w + 15, e + 15, 0);
+    plane_pack_steps::pack(part, &mut first, w, e, w + 15, e + 15, false, 0);
     let n = turn_steps::stages(Operation::Dilation, plan, w, e, &mut first, &mut second);
     let x = 30 - (plan[1] % 256) as usize;
     let y = 30 - (plan[1] / 256 % 256) as usize;

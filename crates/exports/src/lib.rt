@@ -7,7 +7,7 @@ ghost use Rattle.grids.specs.Grid.{FramePut, Staged};
 ghost use Rattle.grids.specs.Share.{Shared};
 ghost use Rattle.cleaning.specs.declared.Operation.the-variants.{Dilation, Erosion, Opening, Closing};
 ghost use Rattle.cleaning.specs.Cleaning.{Cleaned};
-ghost use Rattle.numbers.specs.Numbers.{Stands, ShareStands, erodes, PartFound};
+ghost use Rattle.numbers.specs.Numbers.{Stands, ShareStands, aroundOf, erodes, PartFound};
 ghost use Rattle.rolling.specs.Rolling.{Arrived};
 
 // Planning a shape.
@@ -66,27 +66,29 @@ pub extern "C" fn musq_share(w: usize, h: usize, frame: &[u8], remainder: &mut u
     numbers::share_of(load_calls::share(w, h, frame), remainder)
 }
 
-// Putting a frame into a grid.
+// Putting a frame into a grid, of the second kind if the byte around is anything but 0.
 #[no_mangle]
-pub extern "C" fn musq_put(w: usize, h: usize, frame: &[u8], image: &mut [u8]) -> i64
-    ensures { λ r. ⌜ Stands r (λ a. FramePut w h (now (frame .entry)) (now (image .entry)) a (now (image .exit))) ⌝ }
+pub extern "C" fn musq_put(w: usize, h: usize, frame: &[u8], around: u8, image: &mut [u8]) -> i64
+    ensures { λ r. ⌜ Stands r (λ a. FramePut (aroundOf around) w h (now (frame .entry)) (now (image .entry)) a (now (image .exit))) ⌝ }
 {
-    numbers::signed(frame_calls::put(w, h, frame, image))
+    numbers::signed(frame_calls::put(w, h, frame, numbers::around_of(around), image))
 }
 
-// A single stage, by erosion if the byte erode is anything but 0, else by dilation.
+// A single stage, by erosion if the byte erode is anything but 0, else by dilation, in the second kind of grid if the byte around is.
 #[no_mangle]
 pub extern "C" fn musq_stage(
     word: u32,
     erode: u8,
+    around: u8,
     w: usize,
     h: usize,
     from: &[u8],
     to: &mut [u8],
 ) -> i64
-    ensures { λ r. ⌜ Stands r (λ a. Staged (erodes erode) word w h (now (from .entry)) (now (to .entry)) a (now (to .exit))) ⌝ }
+    ensures { λ r. ⌜ Stands r (λ a. Staged (erodes erode) (aroundOf around) word w h (now (from .entry)) (now (to .entry)) a (now (to .exit))) ⌝ }
 {
-    numbers::signed(frame_calls::stage(word, erode != 0, w, h, from, to))
+    let kind = numbers::around_of(around);
+    numbers::signed(frame_calls::stage(word, erode != 0, kind, w, h, from, to))
 }
 
 // Dilation of a frame by a plan.

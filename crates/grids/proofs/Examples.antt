@@ -5,6 +5,7 @@ use mathlib.Core.Bool.{true, false}
 use mathlib.Core.List.{List, [], _∷_, _++_}
 use Prim.Native.Nat.{ℕ, _+_, _*_, _<_}
 use native.Mathlib.Omega.{arith}
+use lib.IntN.{pos, negsuc}
 use lib.ListN.{take, drop, replicate}
 use Rattle.plane.specs.Point.{_+ᵖ_, negᵖ}
 use Rattle.words.specs.Ground.{firstOf, stated, result, refusal}
@@ -12,10 +13,11 @@ use Rattle.words.specs.declared.Answer.{Answer}
 use Rattle.words.specs.declared.Ground.the-variants.{CellValue}
 use Rattle.words.proofs.Refusals.{ground-small}
 use Rattle.masks.specs.Mask.{maskCells, stage}
-use Rattle.grids.specs.Frame.{frameTests, load, free, full, LoadCounted}
-use Rattle.grids.specs.Grid.{putTests, workTests, stageTests, put, once, FramePut, Staged}
+use Rattle.grids.specs.Frame.{frameTests, load, LoadCounted}
+use Rattle.grids.specs.Grid.{putTests, workTests, stageTests, grid, put, once, FramePut, Staged}
 use Rattle.grids.specs.Image.{cells, valueAt}
 use Rattle.grids.specs.Share.{told, quotient, remainder, TenThousandths, Shared}
+use Rattle.grids.specs.declared.Around.the-variants.{Free, Occupied}
 use Rattle.grids.specs.declared.Share.{Share}
 use Rattle.grids.specs.declared.Share.the-variants as shares
 use Rattle.grids.specs.declared.Share.the-variants.{Exact}
@@ -104,44 +106,71 @@ unfolding load
 load-two = refl
 
 -- a frame of one cell: the rest of its grid, 16 columns and 16 rows, is 0
-put-one : put 1 1 (1 ∷ []) ≡ 1 ∷ replicate 255 0
-unfolding put cells valueAt
+put-one : put Free 1 1 (1 ∷ []) ≡ 1 ∷ replicate 255 0
+unfolding put cells valueAt _+ᵖ_ negᵖ
 put-one = refl
 
 -- row 0 first: the cell (1, 0) of a frame of two columns
-put-row : take 2 (put 2 2 (0 ∷ 1 ∷ 0 ∷ 0 ∷ [])) ≡ 0 ∷ 1 ∷ []
-unfolding put cells valueAt
+put-row : take 2 (put Free 2 2 (0 ∷ 1 ∷ 0 ∷ 0 ∷ [])) ≡ 0 ∷ 1 ∷ []
+unfolding put cells valueAt _+ᵖ_ negᵖ
 put-row = refl
 
 -- one occupied cell (1, 1), dilated and eroded by the mask of cells 0 and 1 of a row, and of cells 0 and 3 of a column
 one-cell : List ℕ
-one-cell = put 2 2 (0 ∷ 0 ∷ 0 ∷ 1 ∷ [])
+one-cell = put Free 2 2 (0 ∷ 0 ∷ 0 ∷ 1 ∷ [])
 
-dilated-row : take 3 (drop 17 (once false free 2 2 3 one-cell)) ≡ 0 ∷ 1 ∷ 1 ∷ []
+dilated-row : take 3 (drop 17 (once false Free 2 2 3 one-cell)) ≡ 0 ∷ 1 ∷ 1 ∷ []
 unfolding one-cell once put cells valueAt maskCells _+ᵖ_ negᵖ
 dilated-row = refl
 
-dilated-column : take 3 (drop 34 (once false free 2 2 9 one-cell)) ≡ 0 ∷ 1 ∷ 0 ∷ []
+dilated-column : take 3 (drop 34 (once false Free 2 2 9 one-cell)) ≡ 0 ∷ 1 ∷ 0 ∷ []
 unfolding one-cell once put cells valueAt maskCells _+ᵖ_ negᵖ
 dilated-column = refl
 
-eroded-free : take 3 (drop 17 (once true free 2 2 3 one-cell)) ≡ 0 ∷ 0 ∷ 0 ∷ []
+eroded-free : take 3 (drop 17 (once true Free 2 2 3 one-cell)) ≡ 0 ∷ 0 ∷ 0 ∷ []
 unfolding one-cell once put cells valueAt maskCells _+ᵖ_ negᵖ
 eroded-free = refl
 
 -- two occupied cells (0, 1) and (1, 1) eroded by a row of two: the left one stays
-eroded-row : take 3 (drop 17 (once true free 2 2 3 (put 2 2 (0 ∷ 0 ∷ 1 ∷ 1 ∷ [])))) ≡ 1 ∷ 0 ∷ 0 ∷ []
+eroded-row : take 3 (drop 17 (once true Free 2 2 3 (put Free 2 2 (0 ∷ 0 ∷ 1 ∷ 1 ∷ [])))) ≡ 1 ∷ 0 ∷ 0 ∷ []
 unfolding once put cells valueAt maskCells _+ᵖ_ negᵖ
 eroded-row = refl
 
 -- the value outside is read there: eroded with occupied cells outside, the last column of a full grid stays
-outside-read : take 1 (drop 15 (once true full 1 1 3 (replicate 256 1))) ≡ 1 ∷ []
+outside-read : take 1 (drop 15 (once true Occupied 1 1 3 (replicate 256 1))) ≡ 1 ∷ []
 unfolding once cells valueAt maskCells _+ᵖ_ negᵖ
 outside-read = refl
 
-outside-free : take 1 (drop 15 (once true free 1 1 3 (replicate 256 1))) ≡ 0 ∷ []
+outside-free : take 1 (drop 15 (once true Free 1 1 3 (replicate 256 1))) ≡ 0 ∷ []
 unfolding once cells valueAt maskCells _+ᵖ_ negᵖ
 outside-free = refl
+
+-- ---- the second kind of grid
+
+-- a frame of one cell stands at its last byte, and all around it is occupied
+put-around : put Occupied 1 1 (0 ∷ []) ≡ replicate 255 1 ++ 0 ∷ []
+unfolding put cells valueAt _+ᵖ_ negᵖ
+put-around = refl
+
+-- dilated and eroded there: the free cell goes, or comes to stand one column to the left as well
+dilated-around : once false Occupied 1 1 3 (put Occupied 1 1 (0 ∷ [])) ≡ replicate 256 1
+unfolding once put cells valueAt maskCells _+ᵖ_ negᵖ
+dilated-around = refl
+
+eroded-around : once true Occupied 1 1 3 (put Occupied 1 1 (0 ∷ [])) ≡ replicate 254 1 ++ 0 ∷ 0 ∷ []
+unfolding once put cells valueAt maskCells _+ᵖ_ negᵖ
+eroded-around = refl
+
+-- a grid of free cells dilated: beyond its first column the plane is occupied
+dilated-from-outside : take 2 (once false Occupied 1 1 3 (replicate 256 0)) ≡ 1 ∷ 0 ∷ []
+unfolding once cells valueAt maskCells _+ᵖ_ negᵖ
+dilated-from-outside = refl
+
+-- the byte 16 × 15 + 15 is the plane cell (0, 0), the first is (−15, −15), and (1, 0) lies outside
+grid-around : (grid Occupied 1 1 (replicate 255 1 ++ 0 ∷ []) (pos 0, pos 0) ≡ 0) × (grid Occupied 1 1 (0 ∷ replicate 255 1) (negsuc 14, negsuc 14) ≡ 0)
+    × (grid Occupied 1 1 (replicate 256 0) (pos 1, pos 0) ≡ 1)
+unfolding valueAt _+ᵖ_
+grid-around = (refl, refl, refl)
 
 -- ---- rows count as columns do, and grounds come in order in each call
 
@@ -180,26 +209,27 @@ counts-not : (r : Answer) → LoadCounted 2 1 (1 ∷ 3 ∷ []) r → stated r �
 unfolding frameTests
 counts-not r p = p .refused (λ e. let n : _≡_ {A = ℕ} 13 0 = e in omega arith) .0
 
-puts : (r : Answer) (i′ : List ℕ) → FramePut 1 2 (0 ∷ 1 ∷ []) (replicate 273 7) r i′
+puts : (r : Answer) (i′ : List ℕ) → FramePut Free 1 2 (0 ∷ 1 ∷ []) (replicate 273 7) r i′
     → (stated r ≡ result 0) × (i′ ≡ replicate 16 0 ++ 1 ∷ replicate 255 0 ++ 7 ∷ [])
-unfolding putTests put cells valueAt
+unfolding putTests put cells valueAt _+ᵖ_ negᵖ
 puts r i′ p = (p .done refl .answer, p .done refl .image)
 
-puts-not : (r : Answer) (i′ : List ℕ) → FramePut 1 1 (2 ∷ []) (replicate 256 7) r i′ → (stated r ≡ refusal 13) × (i′ ≡ replicate 256 7)
+puts-not : (r : Answer) (i′ : List ℕ) → FramePut Free 1 1 (2 ∷ []) (replicate 256 7) r i′ → (stated r ≡ refusal 13) × (i′ ≡ replicate 256 7)
 unfolding putTests
 puts-not r i′ p = p .refused (λ e. let n : _≡_ {A = ℕ} 13 0 = e in omega arith)
 
-stages-dilation : (r : Answer) (i′ : List ℕ) → Staged false 0x50000003 1 1 (1 ∷ replicate 255 0) (replicate 257 7) r i′
+stages-dilation : (r : Answer) (i′ : List ℕ) → Staged false Free 0x50000003 1 1 (1 ∷ replicate 255 0) (replicate 257 7) r i′
     → (stated r ≡ result 0) × (i′ ≡ 1 ∷ 1 ∷ replicate 254 0 ++ 7 ∷ [])
 unfolding stageTests stage once cells valueAt maskCells _+ᵖ_ negᵖ
 stages-dilation r i′ p = (p .done refl .answer, p .done refl .image)
 
 -- outside the grid cells are free: the last column of a full grid goes
-stages-erosion : (r : Answer) (i′ : List ℕ) → Staged true 0x50000003 1 1 (replicate 256 1) (replicate 256 7) r i′ → take 17 i′ ≡ replicate 15 1 ++ 0 ∷ 1 ∷ []
+stages-erosion : (r : Answer) (i′ : List ℕ) → Staged true Free 0x50000003 1 1 (replicate 256 1) (replicate 256 7) r i′
+    → take 17 i′ ≡ replicate 15 1 ++ 0 ∷ 1 ∷ []
 unfolding stageTests stage once cells valueAt maskCells _+ᵖ_ negᵖ
 stages-erosion r i′ p = ap (take 17) (p .done refl .image)
 
-stages-not : (r : Answer) (i′ : List ℕ) → Staged true 0x50000003 1 1 (2 ∷ []) (replicate 256 7) r i′ → (stated r ≡ refusal 13) × (i′ ≡ replicate 256 7)
+stages-not : (r : Answer) (i′ : List ℕ) → Staged true Free 0x50000003 1 1 (2 ∷ []) (replicate 256 7) r i′ → (stated r ≡ refusal 13) × (i′ ≡ replicate 256 7)
 unfolding stageTests stage
 stages-not r i′ p = p .refused (λ e. let n : _≡_ {A = ℕ} 13 0 = e in omega arith)
 

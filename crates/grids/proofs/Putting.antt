@@ -1,17 +1,20 @@
--- Putting loses nothing: the grid that a frame is put into, read on the plane, is the frame.
-use mathlib.Core.Path.{_≡_, subst, fun-ext}
-use mathlib.Core.List.{List}
-use Prim.Native.Nat.{ℕ, _+_, _≤_, zero-le}
+-- Putting loses nothing: the grid that a frame is put into, read on the plane, is the frame. So it is for either kind of grid.
+use mathlib.Core.Path.{_≡_, sym, _∙_, ap, subst, fun-ext}
+use mathlib.Core.Bool.{not}
+use mathlib.Core.List.{List, [], _∷_}
+use Prim.Native.Nat.{ℕ, zero, suc, _+_, _≤_}
 use native.Mathlib.Omega.{arith}
 use lib.Dec.{T, not-T}
 use lib.ListN.{getD}
-use Rattle.plane.specs.Point.{Point}
-use Rattle.plane.proofs.Algebra.{+ᵖ-origin}
+use Rattle.plane.specs.Point.{Point, _+ᵖ_, _-ᵖ_}
+use Rattle.plane.proofs.Algebra.{+ᵖ-origin, +ᵖ-cancel, subᵖ-cancel}
 use Rattle.plane.proofs.Tests.{clash}
-use Rattle.grids.specs.Frame.{frame, free}
-use Rattle.grids.specs.Grid.{grid, put}
+use Rattle.grids.specs.Frame.{frame}
+use Rattle.grids.specs.Grid.{outsideOf, startOf, corner, gridBytes, grid, laid, put}
+use Rattle.grids.specs.declared.Around.{Around}
+use Rattle.grids.specs.declared.Around.the-variants.{Free, Occupied}
 use Rattle.grids.proofs.Pictures.{inside, Within, inside-add, view-outside, view-within}
-use Rattle.grids.proofs.Stage.{Binary, view-binary}
+use Rattle.grids.proofs.Stage.{Binary, view-binary, outside-low}
 
 -- a picture that is free outside a window is free outside a larger one
 pub within-more : (f : Point → ℕ) (W H a b : ℕ) → Within 0 W H f → Within 0 (W + a) (H + b) f
@@ -20,12 +23,50 @@ within-more f W H a b w p t = w p (not-T (inside W H p) (λ u. clash (inside (W 
     more : T (inside W H p) → T (inside (W + a) (H + b) p)
     more u = subst (λ z. T (inside (W + a) (H + b) z)) (+ᵖ-origin p) (inside-add W H (W + a) (H + b) 0 0 (omega arith) (omega arith) p u)
 
-pub frame-binary : (W H : ℕ) (f : List ℕ) → ((i : ℕ) → getD f i 0 ≤ 1) → Binary (frame free W H f)
-frame-binary W H f v = view-binary 0 W H f zero-le (λ i h. v i)
+-- ---- pictures that lie in a grid
 
-pub frame-within : (W H : ℕ) (f : List ℕ) → Within 0 W H (frame free W H f)
-frame-within W H f = view-outside 0 W H f
+-- outside the grid the picture is as the plane is there
+abbrev pub InGrid : Around → ℕ → ℕ → (Point → ℕ) → Type 0
+InGrid k W H f = (p : Point) → T (not (inside (W + 15) (H + 15) (p +ᵖ corner k))) → f p ≡ outsideOf k
 
-pub put-whole : (W H : ℕ) (f : List ℕ) → grid free W H (put W H f) ≡ frame free W H f
+-- such a picture loses nothing in the grid: byte by byte, and on the plane
+pub laid-bytes : (k : Around) (W H : ℕ) (f : Point → ℕ) → InGrid k W H f → gridBytes k W H (laid k W H f) ≡ (λ q. f (q -ᵖ corner k))
+laid-bytes k W H f w = fun-ext (view-within (outsideOf k) (W + 15) (H + 15) (λ q. f (q -ᵖ corner k)) within)
+  where
+    within : Within (outsideOf k) (W + 15) (H + 15) (λ q. f (q -ᵖ corner k))
+    within q t = w (q -ᵖ corner k) (subst (λ z. T (not (inside (W + 15) (H + 15) z))) (sym (subᵖ-cancel q (corner k))) t)
+
+pub laid-whole : (k : Around) (W H : ℕ) (f : Point → ℕ) → InGrid k W H f → grid k W H (laid k W H f) ≡ f
+laid-whole k W H f w = fun-ext (λ p. ap (λ g. g (p +ᵖ corner k)) (laid-bytes k W H f w) ∙ ap f (+ᵖ-cancel p (corner k)))
+
+start-low : (k : Around) → startOf k ≤ 15
+start-low Free = omega arith
+start-low Occupied = omega arith
+
+-- a picture of the frame's columns and rows lies in it
+pub within-grid : (k : Around) (W H : ℕ) (f : Point → ℕ) → Within (outsideOf k) W H f → InGrid k W H f
+within-grid k W H f w p t =
+    w p (not-T (inside W H p) (λ u. clash (inside (W + 15) (H + 15) (p +ᵖ corner k)) t
+    (inside-add W H (W + 15) (H + 15) (startOf k) (startOf k) (let l = start-low k in omega arith) (let l = start-low k in omega arith) p u)))
+
+-- ---- frames
+
+-- bytes that are at most 1, whatever is read past them
+low-past : (v : ℕ) → v ≤ 1 → (f : List ℕ) → ((i : ℕ) → getD f i 0 ≤ 1) → (i : ℕ) → getD f i v ≤ 1
+low-past v l [] b i = l
+low-past v l (a ∷ f) b zero = b 0
+low-past v l (a ∷ f) b (suc i) = low-past v l f (λ j. b (suc j)) i
+
+pub frame-binary : (k : Around) (W H : ℕ) (f : List ℕ) → ((i : ℕ) → getD f i 0 ≤ 1) → Binary (frame (outsideOf k) W H f)
+frame-binary k W H f b = view-binary (outsideOf k) W H f (outside-low k) (λ i h. low-past (outsideOf k) (outside-low k) f b i)
+
+pub frame-within : (k : Around) (W H : ℕ) (f : List ℕ) → Within (outsideOf k) W H (frame (outsideOf k) W H f)
+frame-within k W H f = view-outside (outsideOf k) W H f
+
+pub put-whole : (k : Around) (W H : ℕ) (f : List ℕ) → grid k W H (put k W H f) ≡ frame (outsideOf k) W H f
 unfolding put
-put-whole W H f = fun-ext (view-within 0 (W + 15) (H + 15) (frame free W H f) (within-more (frame free W H f) W H 15 15 (frame-within W H f)))
+put-whole k W H f = laid-whole k W H (frame (outsideOf k) W H f) (within-grid k W H (frame (outsideOf k) W H f) (frame-within k W H f))
+
+pub put-bytes : (k : Around) (W H : ℕ) (f : List ℕ) → gridBytes k W H (put k W H f) ≡ (λ q. frame (outsideOf k) W H f (q -ᵖ corner k))
+unfolding put
+put-bytes k W H f = laid-bytes k W H (frame (outsideOf k) W H f) (within-grid k W H (frame (outsideOf k) W H f) (frame-within k W H f))

@@ -1,6 +1,6 @@
 -- Pictures whose values are 0 or 1: dilation is ⊕ and erosion ⊖ of the occupied points. So a single stage is Minkowski's sum or difference with the
 -- mask's points, cut to the grid, whatever the value outside.
-use mathlib.Core.Path.{_≡_, refl, sym, _∙_, ap, subst}
+use mathlib.Core.Path.{_≡_, refl, sym, _∙_, ap, subst, fun-ext}
 use mathlib.Core.Logic.{_↔_, _⊎_, inl, inr}
 use mathlib.Core.Bool.{Bool, true, false, not, _&&_}
 use mathlib.Core.List.{List, [], _∷_, map}
@@ -12,14 +12,15 @@ use lib.Dec.{T, ltb, ltb→lt, nltb→le}
 use lib.IntN.{ℤ, pos, negsuc}
 use lib.ListN.{length, getD, take}
 use lib.Seq.{getD-take}
-use Rattle.plane.specs.Lists.{In, upTo}
-use Rattle.plane.specs.Point.{Point, _+ᵖ_, _-ᵖ_, _≐_, _⊕_, _⊖_}
-use Rattle.plane.proofs.Algebra.{+ᵖ-cancel, subᵖ-cancel}
-use Rattle.plane.proofs.Member.{In-map, In-flat, any-no}
-use Rattle.plane.proofs.Tests.{T-and, not-or, not-ltb, cond-ind}
+use Rattle.plane.specs.Lists.{In}
+use Rattle.plane.specs.Point.{Point, _+ᵖ_, negᵖ, _-ᵖ_, _≐_, _⊕_, _⊖_}
+use Rattle.plane.proofs.Algebra.{+ᵖ-assoc, +ᵖ-comm, +ᵖ-cancel, subᵖ-cancel}
+use Rattle.plane.proofs.Tests.{T-and, not-or, cond-ind}
 use Rattle.masks.specs.Mask.{maskPoints, Mask}
 use Rattle.grids.specs.Frame.{free, full, greater, lesser, over, occupied, badCell, gridSize}
-use Rattle.grids.specs.Grid.{grid, laid, once}
+use Rattle.grids.specs.Grid.{outsideOf, corner, gridBytes, grid, laid, once}
+use Rattle.grids.specs.declared.Around.{Around}
+use Rattle.grids.specs.declared.Around.the-variants.{Free, Occupied}
 use Rattle.grids.specs.Image.{valueAt, view, cells, fold, dilated, eroded}
 use Rattle.grids.proofs.Fold.{Semilattice, absorb}
 use Rattle.grids.proofs.Pictures.{getD-cells, length-cells}
@@ -60,7 +61,7 @@ module _ {B : Type 0} (g : B → ℕ) where
       go (yes q) r = (b, inl refl, q)
       go (no q) r = let s = r (omega arith) in (s .0, inr (s .1), s .2)
 
-  least-one : (P : List B) → ((b : B) → In P b → g b ≡ 1) → fold lesser full (map g P) ≡ 1
+  pub least-one : (P : List B) → ((b : B) → In P b → g b ≡ 1) → fold lesser full (map g P) ≡ 1
   least-one [] h = refl
   least-one (b ∷ P) h = let r = least-one P (λ c k. h c (inr k)) in let s = h b (inl refl) in omega arith
 
@@ -108,43 +109,73 @@ view-binary v W H l low h p = go (p .0) (p .1)
 
 -- ---- the single stage
 
-pub once-is : (erode : Bool) (v W H m : ℕ) (g : List ℕ) → once erode v W H m g ≡ laid W H (over erode (maskPoints m) (grid v W H g))
+pub once-is : (erode : Bool) (k : Around) (W H m : ℕ) (g : List ℕ) → once erode k W H m g ≡ laid k W H (over erode (maskPoints m) (grid k W H g))
 unfolding once
-once-is erode v W H m g = refl
+once-is erode k W H m g = refl
 
 -- by its kind: the least of the cells p + a, with 1 for none, or the greatest of the cells p − a, with 0 for none
-pub once-eroded : (v W H m : ℕ) (g : List ℕ) → once true v W H m g ≡ laid W H (eroded lesser full (maskPoints m) (grid v W H g))
+pub once-eroded : (k : Around) (W H m : ℕ) (g : List ℕ) → once true k W H m g ≡ laid k W H (eroded lesser full (maskPoints m) (grid k W H g))
 unfolding once
-once-eroded v W H m g = refl
+once-eroded k W H m g = refl
 
-pub once-dilated : (v W H m : ℕ) (g : List ℕ) → once false v W H m g ≡ laid W H (dilated greater free (maskPoints m) (grid v W H g))
+pub once-dilated : (k : Around) (W H m : ℕ) (g : List ℕ) → once false k W H m g ≡ laid k W H (dilated greater free (maskPoints m) (grid k W H g))
 unfolding once
-once-dilated v W H m g = refl
+once-dilated k W H m g = refl
 
-pub once-size : (erode : Bool) (v W H m : ℕ) (g : List ℕ) → length (once erode v W H m g) ≡ gridSize W H
-once-size erode v W H m g =
-    ap length (once-is erode v W H m g) ∙ length-cells (W + 15) (H + 15) (over erode (maskPoints m) (grid v W H g)) ∙ mul-comm (H + 15) (W + 15)
+-- where a grid starts is nothing to a stage: byte by byte it is the picture of the bytes that is taken through it
+over-moved : (erode : Bool) (P : List Point) (f : Point → ℕ) (s p : Point) → over erode P (λ q. f (q +ᵖ s)) (p -ᵖ s) ≡ over erode P f p
+over-moved true P f s p = ap (λ h. fold lesser full (map h P)) (fun-ext (λ a. ap f (back a)))
+  where
+    back : (a : Point) → p -ᵖ s +ᵖ a +ᵖ s ≡ p +ᵖ a
+    back a = +ᵖ-assoc (p -ᵖ s) a s ∙ ap (λ z. p -ᵖ s +ᵖ z) (+ᵖ-comm a s) ∙ sym (+ᵖ-assoc (p -ᵖ s) s a) ∙ ap (λ z. z +ᵖ a) (subᵖ-cancel p s)
+over-moved false P f s p = ap (λ h. fold greater free (map h P)) (fun-ext (λ a. ap f (back a)))
+  where
+    back : (a : Point) → p -ᵖ s -ᵖ a +ᵖ s ≡ p -ᵖ a
+    back a = +ᵖ-assoc (p -ᵖ s) (negᵖ a) s ∙ ap (λ z. p -ᵖ s +ᵖ z) (+ᵖ-comm (negᵖ a) s) ∙ sym (+ᵖ-assoc (p -ᵖ s) s (negᵖ a)) ∙ ap (λ z. z -ᵖ a) (subᵖ-cancel p s)
 
-pub once-cell : (erode : Bool) (v W H m : ℕ) (g : List ℕ) (x y : ℕ) → x < W + 15 → y < H + 15
-    → getD (once erode v W H m g) (y * (W + 15) + x) 0 ≡ over erode (maskPoints m) (grid v W H g) (pos x, pos y)
-once-cell erode v W H m g x y h k =
-    ap (λ l. getD l (y * (W + 15) + x) 0) (once-is erode v W H m g) ∙ getD-cells (W + 15) (H + 15) (over erode (maskPoints m) (grid v W H g)) x y 0 h k
+pub once-bytes : (erode : Bool) (k : Around) (W H m : ℕ) (g : List ℕ)
+    → once erode k W H m g ≡ cells (W + 15) (H + 15) (over erode (maskPoints m) (gridBytes k W H g))
+once-bytes erode k W H m g =
+    once-is erode k W H m g
+    ∙ ap (cells (W + 15) (H + 15)) (fun-ext (over-moved erode (maskPoints m) (gridBytes k W H g) (corner k)))
+
+pub once-size : (erode : Bool) (k : Around) (W H m : ℕ) (g : List ℕ) → length (once erode k W H m g) ≡ gridSize W H
+once-size erode k W H m g =
+    ap length (once-bytes erode k W H m g)
+    ∙ length-cells (W + 15) (H + 15) (over erode (maskPoints m) (gridBytes k W H g)) ∙ mul-comm (H + 15) (W + 15)
+
+-- the byte in column x and row y is the plane cell as far from the grid's start
+pub once-cell : (erode : Bool) (k : Around) (W H m : ℕ) (g : List ℕ) (x y : ℕ) → x < W + 15 → y < H + 15
+    → getD (once erode k W H m g) (y * (W + 15) + x) 0 ≡ over erode (maskPoints m) (grid k W H g) ((pos x, pos y) -ᵖ corner k)
+once-cell erode k W H m g x y h l =
+    ap (λ l. getD l (y * (W + 15) + x) 0) (once-is erode k W H m g)
+    ∙ getD-cells (W + 15) (H + 15) (λ p. over erode (maskPoints m) (grid k W H g) (p -ᵖ corner k)) x y 0 h l
+
+pub outside-low : (k : Around) → outsideOf k ≤ 1
+outside-low Free = zero-le
+outside-low Occupied = le-refl 1
 
 -- where the grid's bytes, read as far as its image goes, are at most 1, so is every cell of it on the plane
-pub grid-binary : (v W H : ℕ) (g : List ℕ) → v ≤ 1 → T (not (badCell (take (gridSize W H) g))) → Binary (grid v W H g)
-grid-binary v W H g low clean = view-binary v (W + 15) (H + 15) g low (λ i h.
+pub grid-binary : (k : Around) (W H : ℕ) (g : List ℕ) → T (not (badCell (take (gridSize W H) g))) → Binary (grid k W H g)
+grid-binary k W H g clean p = view-binary v (W + 15) (H + 15) g low (λ i h.
     subst (λ n. n ≤ 1) (getD-take (gridSize W H) g i v (subst (λ n. i < n) (mul-comm (H + 15) (W + 15)) h))
-    (bytes-binary v low (take (gridSize W H) g) clean i))
+    (bytes-binary v low (take (gridSize W H) g) clean i)) (p +ᵖ corner k)
+  where
+    v : ℕ
+    v = outsideOf k
 
-module _ (v W H m : ℕ) (g : List ℕ) (low : v ≤ 1) (clean : T (not (badCell (take (gridSize W H) g)))) where
+    low : v ≤ 1
+    low = outside-low k
+
+module _ (k : Around) (W H m : ℕ) (g : List ℕ) (clean : T (not (badCell (take (gridSize W H) g)))) where
   pub once-dilation : (x y : ℕ) → x < W + 15 → y < H + 15
-      → (getD (once false v W H m g) (y * (W + 15) + x) 0 ≡ 1) ↔ (occupied (grid v W H g) ⊕ Mask m) (pos x, pos y)
-  once-dilation x y h k =
-      subst (λ n. (n ≡ 1) ↔ (occupied (grid v W H g) ⊕ Mask m) (pos x, pos y)) (sym (once-cell false v W H m g x y h k))
-      (D-set (maskPoints m) (grid v W H g) (grid-binary v W H g low clean) (pos x, pos y))
+      → (getD (once false k W H m g) (y * (W + 15) + x) 0 ≡ 1) ↔ (occupied (grid k W H g) ⊕ Mask m) ((pos x, pos y) -ᵖ corner k)
+  once-dilation x y h l =
+      subst (λ n. (n ≡ 1) ↔ (occupied (grid k W H g) ⊕ Mask m) ((pos x, pos y) -ᵖ corner k)) (sym (once-cell false k W H m g x y h l))
+      (D-set (maskPoints m) (grid k W H g) (grid-binary k W H g clean) ((pos x, pos y) -ᵖ corner k))
 
   pub once-erosion : (x y : ℕ) → x < W + 15 → y < H + 15
-      → (getD (once true v W H m g) (y * (W + 15) + x) 0 ≡ 1) ↔ (occupied (grid v W H g) ⊖ Mask m) (pos x, pos y)
-  once-erosion x y h k =
-      subst (λ n. (n ≡ 1) ↔ (occupied (grid v W H g) ⊖ Mask m) (pos x, pos y)) (sym (once-cell true v W H m g x y h k))
-      (E-set (maskPoints m) (grid v W H g) (grid-binary v W H g low clean) (pos x, pos y))
+      → (getD (once true k W H m g) (y * (W + 15) + x) 0 ≡ 1) ↔ (occupied (grid k W H g) ⊖ Mask m) ((pos x, pos y) -ᵖ corner k)
+  once-erosion x y h l =
+      subst (λ n. (n ≡ 1) ↔ (occupied (grid k W H g) ⊖ Mask m) ((pos x, pos y) -ᵖ corner k)) (sym (once-cell true k W H m g x y h l))
+      (E-set (maskPoints m) (grid k W H g) (grid-binary k W H g clean) ((pos x, pos y) -ᵖ corner k))

@@ -10,6 +10,8 @@ use lib.ListN.{length, take}
 use Rattle.words.specs.declared.Answer.{Answer}
 use Rattle.words.specs.declared.Answer.the-variants.{Done, Refused}
 use Rattle.words.specs.Ground.{numberOf}
+use Rattle.grids.specs.declared.Around.{Around}
+use Rattle.grids.specs.declared.Around.the-variants.{Free, Occupied}
 use Rattle.grids.specs.declared.Share.{Share}
 use Rattle.grids.specs.declared.Share.the-variants as shares
 use Rattle.grids.specs.declared.Share.the-variants.{Exact}
@@ -42,7 +44,11 @@ pub record ShareStands (n : ℤ) (before after : ℕ) (P : Share → Type 0) : T
   pub rest : after ≡ remainderOf answer before
   pub kept : P answer
 
--- ---- the single stage
+-- ---- putting and the single stage
+
+-- the kind of grid: a byte names the first if it is 0, and else the second
+abbrev pub aroundOf : ℕ → Around
+aroundOf b = cond (eqb b 0) Free Occupied
 
 -- a byte says to erode if it is anything but 0
 abbrev pub erodes : ℕ → Bool

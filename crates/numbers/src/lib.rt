@@ -2,7 +2,8 @@
 // that an operation answered.
 ghost use mathlib.Core.Path.{_≡_};
 ghost use lib.IntN.{pos};
-ghost use Rattle.numbers.specs.Numbers.{signedOf, quotientOf, remainderOf, imageOf, PartFound};
+ghost use Rattle.numbers.specs.Numbers.{signedOf, quotientOf, remainderOf, aroundOf, imageOf, PartFound};
+use grids::Around;
 use grids::Share;
 use words::Answer;
 
@@ -30,6 +31,16 @@ pub fn share_of(a: Share, rest: &mut u32) -> i64
         }
         Share::Refused(g) => -(words::number(g) as i64),
     }
+}
+
+// The kind of grid that a byte names: the first if it is 0, and else the second.
+pub fn around_of(b: u8) -> Around
+    ensures { λ r. ⌜ r ≡ aroundOf b ⌝ }
+{
+    if b == 0 {
+        return Around::Free;
+    }
+    Around::Occupied
 }
 
 // The number of the image that the part is in: 2, the second, if the number of stages run is even, and 1, the first, if odd.

@@ -1,3 +1,4 @@
 pub mod PackBits
 pub mod Grouping
 pub mod Fits
+pub mod TopRow

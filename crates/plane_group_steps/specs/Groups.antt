@@ -16,6 +16,10 @@ laidBit a c j q = max (bit a q) (cond (eqb q j) (c % 2) 0)
 abbrev pub groupBit : List ℕ → ℕ → ℕ → ℕ → ℕ → ℕ → ℕ
 groupBit s w r v k q = cond (ltb q r) (getD s (q * w + k) 0 % 2) (bit v (q - r))
 
+-- bit q of byte k of one row of s in bit 7, with the bits of v, 0 or 1, below it
+abbrev pub topBit : List ℕ → ℕ → ℕ → ℕ → ℕ
+topBit s v k q = cond (ltb q 7) v (getD s k 0 % 2)
+
 -- r rows of w cells, at most eight of them, are among m and go into n bytes
 abbrev pub groupFits : ℕ → ℕ → ℕ → ℕ → Bool
 groupFits n m w r = leb n w && leb r 8 && leb w 65535 && leb (r * w) m
@@ -23,3 +27,11 @@ groupFits n m w r = leb n w && leb r 8 && leb w 65535 && leb (r * w) m
 -- r rows of s were put into all of the bytes d, which then are d′, with the bits of v above them
 abbrev pub RowsGrouped : ℕ → ℕ → ℕ → List ℕ → List ℕ → Bool → List ℕ → Type 0
 RowsGrouped w r v s d b d′ = Fitted (groupFits (length d) (length s) w r) (Bitted 0 (length d) (groupBit s w r v) d d′) d b d′
+
+-- a row of m cells goes into n bytes, with v, 0 or 1, below it
+abbrev pub topFits : ℕ → ℕ → ℕ → Bool
+topFits n m v = leb n m && leb v 1
+
+-- a row of cells s was put into bit 7 of all of the bytes d, which then are d′, with v in the bits below it
+abbrev pub RowTopped : ℕ → List ℕ → List ℕ → Bool → List ℕ → Type 0
+RowTopped v s d b d′ = Fitted (topFits (length d) (length s) v) (Bitted 0 (length d) (topBit s v) d d′) d b d′

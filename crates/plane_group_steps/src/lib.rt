@@ -1,10 +1,10 @@
-// Rows of cells put into a row of bytes, the lowest bit of each cell, a row to a bit: group, up to eight rows.
+// Rows of cells put into a row of bytes, the lowest bit of each cell, a row to a bit: group, up to eight rows, and top, one row into the highest bit.
 ghost use mathlib.Core.Path.{_≡_};
 ghost use Prim.Native.Nat.{ℕ, _*_, _<_, _≤_};
 ghost use lib.ListN.{length, getD};
 ghost use Rattle.rows.specs.Cells.{bit};
 ghost use Rattle.planes.specs.Bytes.{Bitted};
-ghost use Rattle.plane_group_steps.specs.Groups.{laidBit, groupBit, groupFits, RowsGrouped};
+ghost use Rattle.plane_group_steps.specs.Groups.{laidBit, groupBit, groupFits, RowsGrouped, RowTopped};
 
 // The lowest bit of the cell c put into bit j of a, which was 0.
 fn laid(a: u8, c: u8, j: usize) -> u8
@@ -69,8 +69,8 @@ fn group_fits(n: usize, m: usize, w: usize, r: usize) -> bool
     r * w <= m
 }
 
-// The first r rows of s, w cells a row, put into the bytes of d, with the bits of outside above them. False, with nothing written, where d is longer than a row,
-// there are more than eight rows, or s does not have them.
+// The first r rows of s, w cells a row, put into the bytes of d, with the bits of outside above them. False, with nothing written, where d is longer than a
+// row, there are more than eight rows, or s does not have them.
 pub fn group(d: &mut [u8], s: &[u8], w: usize, r: usize, outside: u8) -> bool
     ensures { λ b. ⌜ RowsGrouped w r outside (now (s .entry)) (now (d .entry)) b (now (d .exit)) ⌝ }
 {
@@ -78,5 +78,21 @@ pub fn group(d: &mut [u8], s: &[u8], w: usize, r: usize, outside: u8) -> bool
         return false;
     }
     grouped(d, s, w, r, outside);
+    true
+}
+
+// A row of cells s put into bit 7 of the bytes of d, with the value outside in the bits below it. False, with nothing written, where d is longer than the row,
+// or the value outside is neither 0 nor 1.
+pub fn top(d: &mut [u8], s: &[u8], outside: u8) -> bool
+    ensures { λ b. ⌜ RowTopped outside (now (s .entry)) (now (d .entry)) b (now (d .exit)) ⌝ }
+{
+    if s.len() < d.len() {
+        return false;
+    }
+    if 1 < outside {
+        return false;
+    }
+    ranges::fill(d, outside * 127);
+    lay(d, s, 7);
     true
 }

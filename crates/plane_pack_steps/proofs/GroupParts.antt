@@ -4,6 +4,7 @@ use mathlib.Core.Logic.{⊎-elim}
 use mathlib.Core.Bool.{Bool, cond}
 use mathlib.Core.List.{List}
 use Prim.Native.Nat.{ℕ, _+_, _-_, _*_, _%_, min, _<_, _≤_}
+use native.Mathlib.Nat.{zero-add}
 use native.Mathlib.Omega.{arith}
 use lib.Dec.{ltb}
 use lib.ListN.{length, getD}
@@ -14,9 +15,10 @@ use Rattle.rows.specs.Cells.{bit}
 use Rattle.ranges.proofs.Ranges.{getD-mid}
 use Rattle.ranges.proofs.FlatRows.{rows-apart}
 use Rattle.planes.proofs.Bitting.{bitted-part}
-use Rattle.plane_group_steps.specs.Groups.{groupBit, RowsGrouped}
+use Rattle.plane_group_steps.specs.Groups.{groupBit, RowsGrouped, topBit, RowTopped}
 use Rattle.plane_group_steps.proofs.Fits.{group-done}
-use Rattle.plane_pack_steps.specs.Packing.{GroupPut}
+use Rattle.plane_group_steps.proofs.TopRow.{top-done}
+use Rattle.plane_pack_steps.specs.Packing.{GroupPut, LeadPut}
 
 -- a part of the bytes that has a part of the cells
 pub group-put : (w a p q v : ℕ) (f d : List ℕ) {b : Bool} {ys : List ℕ} (r : ℕ) → w ≤ 65535 → r ≡ min a 8 → p + w ≤ length d → q + r * w ≤ length f
@@ -44,3 +46,21 @@ group-put w a p q v f d r hw e hd hf g =
         rw (lt-ltb i r u) (ap (λ (n : ℕ). n % 2) (getD-mid 0 q (q + r * w - q) f (i * w + k) (omega arith))))
         (λ (u : r ≤ i). rw (le-ltb i r u))
         (lt-or-le i r)
+
+-- the same of one row in bit 7
+pub lead-put : (w p v : ℕ) (f d : List ℕ) {b : Bool} {ys : List ℕ} → p + w ≤ length d → w ≤ length f
+    → v ≤ 1 → RowTopped v (midOf 0 (w - 0) f) (midOf p (p + w - p) d) b ys → LeadPut w p v f d (putMid p (p + w - p) d ys)
+lead-put w p v f d hd hf hv g =
+    let n = mid-len p (p + w) d hd in
+    let m = mid-len 0 w f hf in
+    let u = top-done v (midOf 0 (w - 0) f) (midOf p (p + w - p) d) (omega arith) hv g in
+    let b = bitted-part {a = p} {e = p + w} {xs = d} (omega arith) hd u in record {
+      len = b .len;
+      at = λ k i lk li.
+          let z : p + k - p ≡ k = omega arith in
+          b .at (p + k) i (omega arith) (omega arith) li
+          ∙ ap (λ (n : ℕ). topBit (midOf 0 (w - 0) f) v n i) z
+          ∙ ap (λ (n : ℕ). cond (ltb i 7) v (n % 2)) (getD-mid 0 0 (w - 0) f k (omega arith) ∙ ap (λ (n : ℕ). getD f n 0) (zero-add k));
+      below = b .below;
+      above = b .above;
+    }

@@ -1,3 +1,4 @@
 pub mod GroupParts
 pub mod PackRows
+pub mod LeadRow
 pub mod Sizing

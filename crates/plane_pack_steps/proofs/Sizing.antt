@@ -2,29 +2,30 @@
 use mathlib.Core.Path.{_≡_}
 use mathlib.Core.Bool.{Bool, true, false, _&&_}
 use mathlib.Core.List.{List}
-use Prim.Native.Nat.{ℕ, _*_}
+use Prim.Native.Nat.{ℕ, _+_, _*_}
 use lib.Dec.{leb, leb→le}
 use lib.ListN.{length}
 use Rattle.plane.proofs.Tests.{T-and}
 use Rattle.ranges.proofs.Sizing.{four, holds}
-use Rattle.planes.specs.Planes.{planeSize, planeSides, packFits}
+use Rattle.planes.specs.Planes.{planeSize, planeSides, placeOf, packFits}
 use Rattle.plane_pack_steps.specs.Packing.{Packable}
 
-pub pack-says : (v w h C R : ℕ) (f d : List ℕ) → packFits v w h C R (length f) (length d) ≡ true → Packable v w h C R f d
-pack-says v w h C R f d e =
+pub pack-says : (v : ℕ) (far : Bool) (w h C R : ℕ) (f d : List ℕ) → packFits v far w h C R (length f) (length d) ≡ true → Packable v far w h C R f d
+pack-says v far w h C R f d e =
     let n = length f in
     let k = length d in
-    let p₁ = T-and (planeSides v C R && leb w C && leb h R && leb (w * h) n) (leb (planeSize C R) k) .0 (holds e) in
-    let p₂ = T-and (planeSides v C R && leb w C && leb h R) (leb (w * h) n) .0 (p₁ .0) in
-    let p₃ = T-and (planeSides v C R && leb w C) (leb h R) .0 (p₂ .0) in
-    let p₄ = T-and (planeSides v C R) (leb w C) .0 (p₃ .0) in
-    let s = four 1 R C 65535 R 65535 v 1 (p₄ .0) in
+    let s = placeOf far in
+    let p₁ = T-and (planeSides v C R && leb (w + s) C && leb (h + s) R && leb (w * h) n) (leb (planeSize C R) k) .0 (holds e) in
+    let p₂ = T-and (planeSides v C R && leb (w + s) C && leb (h + s) R) (leb (w * h) n) .0 (p₁ .0) in
+    let p₃ = T-and (planeSides v C R && leb (w + s) C) (leb (h + s) R) .0 (p₂ .0) in
+    let p₄ = T-and (planeSides v C R) (leb (w + s) C) .0 (p₃ .0) in
+    let q = four 1 R C 65535 R 65535 v 1 (p₄ .0) in
     record {
-      wide = leb→le w C (p₄ .1);
-      high = leb→le h R (p₃ .1);
-      columns = s .1;
-      rows = s .2;
-      around = s .3;
+      wide = leb→le (w + s) C (p₄ .1);
+      high = leb→le (h + s) R (p₃ .1);
+      columns = q .1;
+      rows = q .2;
+      around = q .3;
       cells = leb→le (w * h) n (p₂ .1);
       room = leb→le (planeSize C R) k (p₁ .1);
     }

@@ -1,27 +1,58 @@
 // A frame packed into a plane, eight rows at a time, the lowest bit of each cell: pack.
 ghost use mathlib.Core.Path.{_≡_};
 ghost use Prim.Native.Nat.{_+_, _*_, _≤_, min};
+ghost use lib.Dec.{leb};
 ghost use lib.ListN.{length};
-ghost use Rattle.planes.specs.Planes.{packFits, FramePacked, Packed};
-ghost use Rattle.plane_pack_steps.specs.Packing.{GroupPut, Packable};
+ghost use Rattle.planes.specs.Planes.{placeOf, packFits, FramePacked, Packed};
+ghost use Rattle.plane_pack_steps.specs.Packing.{GroupPut, LeadPut, Packable, leadOf, Until};
+
+// Where the frame's cell (0, 0) stands in the plane: at its own, or at (15, 15).
+fn place(far: bool) -> usize
+    ensures { λ r. ⌜ r ≡ placeOf far ⌝ }
+{
+    if far {
+        return 15;
+    }
+    0
+}
 
 // Whether w columns and h rows in n bytes go into a plane of gw columns and gh rows in k bytes.
-fn pack_fits(w: usize, h: usize, gw: usize, gh: usize, outside: u8, n: usize, k: usize) -> bool
-    ensures { λ r. ⌜ r ≡ packFits outside w h gw gh n k ⌝ }
+fn pack_fits(
+    w: usize,
+    h: usize,
+    gw: usize,
+    gh: usize,
+    far: bool,
+    outside: u8,
+    n: usize,
+    k: usize,
+) -> bool
+    ensures { λ r. ⌜ r ≡ packFits outside far w h gw gh n k ⌝ }
 {
     if !planes::sides(gw, gh, outside) {
         return false;
     }
-    if gw < w {
+    let s = place(far);
+    if !fits_at(w, s, gw) {
         return false;
     }
-    if gh < h {
+    if !fits_at(h, s, gh) {
         return false;
     }
     if n < w * h {
         return false;
     }
     ((gh + 7) / 8 + 2) * (gw + 2) + 2 <= k
+}
+
+// Whether n cells from the place s on are at most m.
+fn fits_at(n: usize, s: usize, m: usize) -> bool
+    ensures { λ r. ⌜ r ≡ leb (n + s) m ⌝ }
+{
+    if m < s {
+        return false;
+    }
+    n <= m - s
 }
 
 // How many rows a group has of which a rows are left.
@@ -43,18 +74,43 @@ fn next(f: &[u8], dst: &mut [u8], w: usize, a: usize, p: usize, q: usize, outsid
     plane_group_steps::group(&mut dst[p..p + w], &f[q..q + r * w], w, r, outside);
 }
 
-// The value outside everywhere, and then group after group of eight rows.
-fn fill(f: &[u8], dst: &mut [u8], w: usize, h: usize, gw: usize, gh: usize, outside: u8)
-    requires { ⌜ Packable outside w h gw gh (now f) (now dst) ⌝ }
-    ensures { λ _. ⌜ FramePacked outside w h gw gh (now (f .entry)) (now (dst .entry)) (now (dst .exit)) ⌝ }
+// The first row of f, w cells, into bit 7 of the bytes of dst from p on: where a frame stands at row 15, that row ends a row of bytes.
+fn lead(f: &[u8], dst: &mut [u8], w: usize, p: usize, outside: u8)
+    requires { ⌜ (p + w ≤ length (now dst)) × (w ≤ length (now f)) × (outside ≤ 1) ⌝ }
+    ensures { λ _. ⌜ LeadPut w p outside (now (f .entry)) (now (dst .entry)) (now (dst .exit)) ⌝ }
+{
+    plane_group_steps::top(&mut dst[p..p + w], &f[0..w], outside);
+}
+
+// How many rows of the frame stand before the first that begins a row of bytes.
+fn leading(far: bool) -> usize
+    ensures { λ r. ⌜ r ≡ leadOf far ⌝ }
+{
+    if far {
+        return 1;
+    }
+    0
+}
+
+// Group after group of eight rows, from the first that begins a row of bytes on; what stands before is packed, and the rest of the plane has the value outside.
+fn grouped(
+    f: &[u8],
+    dst: &mut [u8],
+    w: usize,
+    h: usize,
+    gw: usize,
+    gh: usize,
+    far: bool,
+    outside: u8,
+)
+    requires { ⌜ Packable outside far w h gw gh (now f) (now dst) × (leadOf far ≤ h) × Until outside (placeOf far) w h gw gh (leadOf far) (now f) (now dst) ⌝ }
+    ensures { λ _. ⌜ FramePacked outside far w h gw gh (now (f .entry)) (now (dst .entry)) (now (dst .exit)) ⌝ }
 {
     let s = gw + 2;
-    let n = (gh + 7) / 8;
     let v = outside * 255;
-    ranges::fill(&mut dst[0..n * s + 2 * s + 2], v);
-    let mut p = s + 2;
-    let mut q: usize = 0;
-    let mut y: usize = 0;
+    let mut y = leading(far);
+    let mut p = (2 * y + 1) * s + 15 * y + 2;
+    let mut q = y * w;
     while y < h {
         next(f, dst, w, h - y, p, q, v);
         p += s;
@@ -63,14 +119,43 @@ fn fill(f: &[u8], dst: &mut [u8], w: usize, h: usize, gw: usize, gh: usize, outs
     }
 }
 
-// Packs the frame of w columns and h rows in f into the plane of gw columns and gh rows in dst, with its cell (0, 0) at that of the plane, and the value
-// outside around it. False, with nothing written, where sizes do not fit, or the value outside is neither 0 nor 1.
-pub fn pack(f: &[u8], dst: &mut [u8], w: usize, h: usize, gw: usize, gh: usize, outside: u8) -> bool
-    ensures { λ r. ⌜ Packed outside w h gw gh (now (f .entry)) (now (dst .entry)) r (now (dst .exit)) ⌝ }
+// The value outside everywhere, and then the frame's rows.
+fn fill(f: &[u8], dst: &mut [u8], w: usize, h: usize, gw: usize, gh: usize, far: bool, outside: u8)
+    requires { ⌜ Packable outside far w h gw gh (now f) (now dst) ⌝ }
+    ensures { λ _. ⌜ FramePacked outside far w h gw gh (now (f .entry)) (now (dst .entry)) (now (dst .exit)) ⌝ }
 {
-    if !pack_fits(w, h, gw, gh, outside, f.len(), dst.len()) {
+    let s = gw + 2;
+    let n = (gh + 7) / 8;
+    let v = outside * 255;
+    ranges::fill(&mut dst[0..n * s + 2 * s + 2], v);
+    if h == 0 {
+        return;
+    }
+    if far {
+        lead(f, dst, w, 2 * s + 17, outside);
+        grouped(f, dst, w, h, gw, gh, far, outside);
+        return;
+    }
+    grouped(f, dst, w, h, gw, gh, far, outside);
+}
+
+// Packs the frame of w columns and h rows in f into the plane of gw columns and gh rows in dst, with its cell (0, 0) at that of the plane, or, if far, at
+// (15, 15), and the value outside around it. False, with nothing written, where sizes do not fit, or the value outside is neither 0 nor 1.
+pub fn pack(
+    f: &[u8],
+    dst: &mut [u8],
+    w: usize,
+    h: usize,
+    gw: usize,
+    gh: usize,
+    far: bool,
+    outside: u8,
+) -> bool
+    ensures { λ r. ⌜ Packed outside far w h gw gh (now (f .entry)) (now (dst .entry)) r (now (dst .exit)) ⌝ }
+{
+    if !pack_fits(w, h, gw, gh, far, outside, f.len(), dst.len()) {
         return false;
     }
-    fill(f, dst, w, h, gw, gh, outside);
+    fill(f, dst, w, h, gw, gh, far, outside);
     true
 }

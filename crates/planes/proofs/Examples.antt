@@ -86,8 +86,8 @@ unpacked-on = refl
 
 -- ---- sizes
 
-fits-240 : packFits 0 240 240 255 255 57600 65025 ≡ true
-fits-240 = refl
+fits-240 : (packFits 0 false 240 240 255 255 57600 65025 ≡ true) × (packFits 1 true 240 240 255 255 57600 65025 ≡ true)
+fits-240 = (refl, refl)
 
 two-outside : stageFits 2 3 3 17 17 ≡ false
 two-outside = refl

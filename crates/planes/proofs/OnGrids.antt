@@ -12,18 +12,22 @@ use lib.IntN.{ℤ, pos, negsuc, _-ℤ_}
 use lib.ListN.{length, getD, drop, length-map, length-drop}
 use lib.Seq.{ext-getD, getD-drop}
 use borrow.Author.Tests.{le-leb}
-use Rattle.plane.specs.Point.{Point, _+ᵖ_, negᵖ}
-use Rattle.plane.proofs.Algebra.{subᵖ-cancel}
+use Rattle.plane.specs.Point.{Point, _+ᵖ_, negᵖ, _-ᵖ_}
+use Rattle.plane.proofs.Algebra.{+ᵖ-origin, subᵖ-cancel}
 use Rattle.plane.proofs.Integer.{diff-ge}
 use Rattle.plane.proofs.Tests.{lt-or-le, not-or}
 use Rattle.grids.specs.Image.{valueAt, view, cells}
 use Rattle.grids.specs.Frame.{highest, badCell, gridSize}
-use Rattle.grids.specs.Grid.{grid, once}
+use Rattle.grids.specs.Grid.{outsideOf, corner, gridBytes, once}
+use Rattle.grids.specs.declared.Around.{Around}
+use Rattle.grids.specs.declared.Around.the-variants.{Free, Occupied}
+use Rattle.grids.proofs.Stage.{once-bytes}
 use Rattle.grids.proofs.Pictures.{getD-cells, length-cells}
 use Rattle.ranges.proofs.FlatRows.{flat-lt}
 use Rattle.ranges.proofs.Values.{value-in, value-right, value-under, value-left, value-above}
 use Rattle.cuts.specs.Cuts.{cutOut}
-use Rattle.planes.specs.Planes.{byteRows, planeSize, bitSeen, Shows, PlaneOnly, lowBits, packFits, afterStage, stageFits, heldAt, planeCells, unpackFits}
+use Rattle.planes.specs.Planes.{byteRows, planeSize, bitSeen, Shows, PlaneOnly, lowBits, placeOf, farOf, packFits, afterStage, stageFits, heldAt}
+use Rattle.planes.specs.Planes.{planeCells, unpackFits}
 
 -- cells that no ground refuses are packed whole
 pub low-bits : (f : List ℕ) → T (not (badCell f)) → lowBits f ≡ f
@@ -64,9 +68,20 @@ low-view v C R g fits low = fun-ext (λ p. go (p .0) (p .1))
     go (negsuc x) b = value-left v (lowBits g) C R x b ∙ sym (value-left v g C R x b)
 
 -- a stage on a plane that shows a grid
-pub after-once : (erode : Bool) (v W H m : ℕ) (g : List ℕ) → afterStage erode v (W + 15) (H + 15) m (grid v W H g) ≡ grid v W H (once erode v W H m g)
-unfolding afterStage once
-after-once erode v W H m g = refl
+pub after-once : (erode : Bool) (k : Around) (W H m : ℕ) (g : List ℕ)
+    → afterStage erode (outsideOf k) (W + 15) (H + 15) m (gridBytes k W H g) ≡ gridBytes k W H (once erode k W H m g)
+unfolding afterStage
+after-once erode k W H m g = ap (gridBytes k W H) (sym (once-bytes erode k W H m g))
+
+-- a frame that is packed at the place of its kind of grid, as the grid that it is put into
+pub far-corner : (k : Around) → (pos (placeOf (farOf k)), pos (placeOf (farOf k))) ≡ corner k
+far-corner Free = refl
+far-corner Occupied = refl
+
+-- and what is packed at the plane's own place stays where it is
+pub near-place : (f : Point → ℕ) → (λ p. f (p -ᵖ (pos 0, pos 0))) ≡ f
+unfolding negᵖ
+near-place f = fun-ext (λ p. ap f (+ᵖ-origin p))
 
 -- a plane takes no more bytes than its grid
 pub plane-fits : (W H : ℕ) → planeSize (W + 15) (H + 15) ≤ gridSize W H
@@ -88,25 +103,28 @@ kept-drop W H {d} {d′} k =
 
 -- what works on the grid of a frame that ground 11 passes finds that sizes fit
 module _ (W H : ℕ) (lw : W ≤ 240) (lh : H ≤ 240) where
-  pub grid-pack : (w h n k : ℕ) → w ≤ W + 15 → h ≤ H + 15 → w * h ≤ n → planeSize (W + 15) (H + 15) ≤ k
-      → T (packFits 0 w h (W + 15) (H + 15) n k)
-  grid-pack w h n k hw hh hn hk =
+  pub grid-pack : (v : ℕ) (far : Bool) (w h n k : ℕ) → v ≤ 1 → w + placeOf far ≤ W + 15 → h + placeOf far ≤ H + 15 → w * h ≤ n
+      → planeSize (W + 15) (H + 15) ≤ k
+      → T (packFits v far w h (W + 15) (H + 15) n k)
+  grid-pack v far w h n k lv hw hh hn hk =
       rw (
         le-leb 1 (H + 15) (omega arith),
         le-leb (W + 15) 65535 (omega arith),
         le-leb (H + 15) 65535 (omega arith),
-        le-leb w (W + 15) hw,
-        le-leb h (H + 15) hh,
+        le-leb v 1 lv,
+        le-leb (w + placeOf far) (W + 15) hw,
+        le-leb (h + placeOf far) (H + 15) hh,
         le-leb (w * h) n hn,
         le-leb (planeSize (W + 15) (H + 15)) k hk,
       ) tt
 
-  pub grid-stage : (n k : ℕ) → planeSize (W + 15) (H + 15) ≤ n → planeSize (W + 15) (H + 15) ≤ k → T (stageFits 0 (W + 15) (H + 15) n k)
-  grid-stage n k hn hk =
+  pub grid-stage : (v n k : ℕ) → v ≤ 1 → planeSize (W + 15) (H + 15) ≤ n → planeSize (W + 15) (H + 15) ≤ k → T (stageFits v (W + 15) (H + 15) n k)
+  grid-stage v n k lv hn hk =
       rw (
         le-leb 1 (H + 15) (omega arith),
         le-leb (W + 15) 65535 (omega arith),
         le-leb (H + 15) 65535 (omega arith),
+        le-leb v 1 lv,
         le-leb (planeSize (W + 15) (H + 15)) n hn,
         le-leb (planeSize (W + 15) (H + 15)) k hk,
       ) tt

@@ -17,47 +17,47 @@ use Rattle.grids.proofs.Pictures.{getD-cells, length-cells}
 use Rattle.ranges.proofs.Values.{value-in, value-right, value-under, value-left, value-above}
 use Rattle.planes.specs.Planes.{afterStage}
 
--- outside C columns and R rows a picture of cells has the value outside
-module _ (v C R : ℕ) (l : List ℕ) (x y : ℕ) where
-  out-left : x < 2 → valueAt v C R l (pos x -ℤ pos 2) (pos y -ℤ pos 8) ≡ v
-  out-left u = ap (λ (a : ℤ). valueAt v C R l a (pos y -ℤ pos 8)) (diff-lt x 2 u) ∙ value-left v l C R (2 - suc x) (pos y -ℤ pos 8)
+-- outside C columns and R rows a picture of cells has the value outside; column a of row b is its cell (0, 0)
+module _ (a b v C R : ℕ) (l : List ℕ) (x y : ℕ) where
+  out-left : x < a → valueAt v C R l (pos x -ℤ pos a) (pos y -ℤ pos b) ≡ v
+  out-left u = ap (λ (c : ℤ). valueAt v C R l c (pos y -ℤ pos b)) (diff-lt x a u) ∙ value-left v l C R (a - suc x) (pos y -ℤ pos b)
 
-  in-x : 2 ≤ x → valueAt v C R l (pos x -ℤ pos 2) (pos y -ℤ pos 8) ≡ valueAt v C R l (pos (x - 2)) (pos y -ℤ pos 8)
-  in-x u = ap (λ (a : ℤ). valueAt v C R l a (pos y -ℤ pos 8)) (diff-ge x 2 u)
+  in-x : a ≤ x → valueAt v C R l (pos x -ℤ pos a) (pos y -ℤ pos b) ≡ valueAt v C R l (pos (x - a)) (pos y -ℤ pos b)
+  in-x u = ap (λ (c : ℤ). valueAt v C R l c (pos y -ℤ pos b)) (diff-ge x a u)
 
-  pub in-both : 2 ≤ x → 8 ≤ y → valueAt v C R l (pos x -ℤ pos 2) (pos y -ℤ pos 8) ≡ valueAt v C R l (pos (x - 2)) (pos (y - 8))
-  in-both u t = in-x u ∙ ap (λ (b : ℤ). valueAt v C R l (pos (x - 2)) b) (diff-ge y 8 t)
+  pub in-both : a ≤ x → b ≤ y → valueAt v C R l (pos x -ℤ pos a) (pos y -ℤ pos b) ≡ valueAt v C R l (pos (x - a)) (pos (y - b))
+  in-both u t = in-x u ∙ ap (λ (c : ℤ). valueAt v C R l (pos (x - a)) c) (diff-ge y b t)
 
-  pub out-above : y < 8 → valueAt v C R l (pos x -ℤ pos 2) (pos y -ℤ pos 8) ≡ v
+  pub out-above : y < b → valueAt v C R l (pos x -ℤ pos a) (pos y -ℤ pos b) ≡ v
   out-above t = ⊎-elim
-      (λ (u : x < 2). out-left u)
-      (λ (u : 2 ≤ x). in-x u ∙ ap (λ (b : ℤ). valueAt v C R l (pos (x - 2)) b) (diff-lt y 8 t) ∙ value-above v l C R (x - 2) (8 - suc y))
-      (lt-or-le x 2)
+      (λ (u : x < a). out-left u)
+      (λ (u : a ≤ x). in-x u ∙ ap (λ (c : ℤ). valueAt v C R l (pos (x - a)) c) (diff-lt y b t) ∙ value-above v l C R (x - a) (b - suc y))
+      (lt-or-le x a)
 
-  out-right : 8 ≤ y → C + 2 ≤ x → valueAt v C R l (pos x -ℤ pos 2) (pos y -ℤ pos 8) ≡ v
-  out-right t u = in-both (omega arith) t ∙ value-right v l C R (x - 2) (y - 8) (omega arith)
+  out-right : b ≤ y → C + a ≤ x → valueAt v C R l (pos x -ℤ pos a) (pos y -ℤ pos b) ≡ v
+  out-right t u = in-both (omega arith) t ∙ value-right v l C R (x - a) (y - b) (omega arith)
 
   -- on either side
-  pub out-side : 8 ≤ y → (2 ≤ x → x < C + 2 → ⊥) → valueAt v C R l (pos x -ℤ pos 2) (pos y -ℤ pos 8) ≡ v
+  pub out-side : b ≤ y → (a ≤ x → x < C + a → ⊥) → valueAt v C R l (pos x -ℤ pos a) (pos y -ℤ pos b) ≡ v
   out-side t n = ⊎-elim
-      (λ (u : x < 2). out-left u)
-      (λ (u : 2 ≤ x). ⊎-elim (λ (w : x < C + 2). absurd (n u w)) (λ (w : C + 2 ≤ x). out-right t w) (lt-or-le x (C + 2)))
-      (lt-or-le x 2)
+      (λ (u : x < a). out-left u)
+      (λ (u : a ≤ x). ⊎-elim (λ (w : x < C + a). absurd (n u w)) (λ (w : C + a ≤ x). out-right t w) (lt-or-le x (C + a)))
+      (lt-or-le x a)
 
-  pub out-under : R + 8 ≤ y → valueAt v C R l (pos x -ℤ pos 2) (pos y -ℤ pos 8) ≡ v
+  pub out-under : R + b ≤ y → valueAt v C R l (pos x -ℤ pos a) (pos y -ℤ pos b) ≡ v
   out-under t = ⊎-elim
-      (λ (u : x < 2). out-left u)
-      (λ (u : 2 ≤ x). ⊎-elim
-      (λ (w : x < C + 2). in-both u (omega arith) ∙ value-under v l C R (x - 2) (y - 8) (omega arith) (omega arith))
-      (λ (w : C + 2 ≤ x). out-right (omega arith) w)
-      (lt-or-le x (C + 2)))
-      (lt-or-le x 2)
+      (λ (u : x < a). out-left u)
+      (λ (u : a ≤ x). ⊎-elim
+      (λ (w : x < C + a). in-both u (omega arith) ∙ value-under v l C R (x - a) (y - b) (omega arith) (omega arith))
+      (λ (w : C + a ≤ x). out-right (omega arith) w)
+      (lt-or-le x (C + a)))
+      (lt-or-le x a)
 
 -- inside them it has the cell
 pub cell-in : (v C R : ℕ) (f : Point → ℕ) (x y : ℕ) → 2 ≤ x → x < C + 2 → 8 ≤ y → y < R + 8
     → view v C R (cells C R f) (pos x -ℤ pos 2, pos y -ℤ pos 8) ≡ f (pos (x - 2), pos (y - 8))
 cell-in v C R f x y u u' t t' =
-    in-both v C R (cells C R f) x y u t
+    in-both 2 8 v C R (cells C R f) x y u t
     ∙ value-in v (cells C R f) C R (omega (arith, length-cells C R f, mul-comm C R)) (x - 2) (y - 8) (omega arith) (omega arith)
     ∙ getD-cells C R f (x - 2) (y - 8) 0 (omega arith) (omega arith)
 
@@ -69,15 +69,15 @@ module _ (erode : Bool) (v C R m : ℕ) (f : Point → ℕ) (x y : ℕ) where
 
   pub after-above : y < 8 → afterStage erode v C R m f (pos x -ℤ pos 2, pos y -ℤ pos 8) ≡ v
   unfolding afterStage after-cells
-  after-above u = out-above v C R after-cells x y u
+  after-above u = out-above 2 8 v C R after-cells x y u
 
   pub after-side : 8 ≤ y → (2 ≤ x → x < C + 2 → ⊥) → afterStage erode v C R m f (pos x -ℤ pos 2, pos y -ℤ pos 8) ≡ v
   unfolding afterStage after-cells
-  after-side u n = out-side v C R after-cells x y u n
+  after-side u n = out-side 2 8 v C R after-cells x y u n
 
   pub after-under : R + 8 ≤ y → afterStage erode v C R m f (pos x -ℤ pos 2, pos y -ℤ pos 8) ≡ v
   unfolding afterStage after-cells
-  after-under u = out-under v C R after-cells x y u
+  after-under u = out-under 2 8 v C R after-cells x y u
 
   pub after-in : 2 ≤ x → x < C + 2 → 8 ≤ y → y < R + 8
       → afterStage erode v C R m f (pos x -ℤ pos 2, pos y -ℤ pos 8) ≡ over erode (maskPoints m) f (pos (x - 2), pos (y - 8))

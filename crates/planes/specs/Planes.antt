@@ -2,14 +2,16 @@
 -- first two are pads, a row of bytes more above and below, and two bytes at its end; what is no cell of the picture holds the value outside it. So a cell
 -- up to two columns or eight rows away is always a cell of the plane, and no flat distance that a stage reads at wraps into another row's cells.
 use mathlib.Core.Path.{_≡_}
-use mathlib.Core.Bool.{Bool, _&&_}
+use mathlib.Core.Bool.{Bool, true, false, _&&_}
 use mathlib.Core.List.{List, map}
 use Prim.Native.Nat.{ℕ, _+_, _*_, _/_, _%_, _<_, _≤_}
 use lib.Dec.{leb}
 use lib.IntN.{ℤ, pos, negsuc, _-ℤ_}
 use lib.ListN.{length, getD}
-use Rattle.plane.specs.Point.{Point}
+use Rattle.plane.specs.Point.{Point, _-ᵖ_}
 use Rattle.masks.specs.Mask.{maskPoints}
+use Rattle.grids.specs.declared.Around.{Around}
+use Rattle.grids.specs.declared.Around.the-variants.{Free, Occupied}
 use Rattle.grids.specs.Image.{view, cells}
 use Rattle.grids.specs.Frame.{over}
 use Rattle.rows.specs.Cells.{bit}
@@ -52,17 +54,27 @@ planeSides v C R = leb 1 R && leb C 65535 && leb R 65535 && leb v 1
 abbrev pub lowBits : List ℕ → List ℕ
 lowBits f = map (λ c. c % 2) f
 
+-- where a frame's cell (0, 0) stands in the plane: at its own, or at (15, 15)
+abbrev pub placeOf : Bool → ℕ
+placeOf false = 0
+placeOf true = 15
+
+-- the kind of grid whose frame stands there
+abbrev pub farOf : Around → Bool
+farOf Free = false
+farOf Occupied = true
+
 -- W columns and H rows in n bytes go into a plane of C columns and R rows in k bytes
-abbrev pub packFits : ℕ → ℕ → ℕ → ℕ → ℕ → ℕ → ℕ → Bool
-packFits v W H C R n k = planeSides v C R && leb W C && leb H R && leb (W * H) n && leb (planeSize C R) k
+abbrev pub packFits : ℕ → Bool → ℕ → ℕ → ℕ → ℕ → ℕ → ℕ → Bool
+packFits v far W H C R n k = planeSides v C R && leb (W + placeOf far) C && leb (H + placeOf far) R && leb (W * H) n && leb (planeSize C R) k
 
 -- a frame f of W columns and H rows, with v around it, was packed into d, which then is d′
-pub record FramePacked (v W H C R : ℕ) (f d d′ : List ℕ) : Type 0 where
+pub record FramePacked (v : ℕ) (far : Bool) (W H C R : ℕ) (f d d′ : List ℕ) : Type 0 where
   pub kept : PlaneOnly C R d d′
-  pub shown : Shows C R (view v W H (lowBits f)) d′
+  pub shown : Shows C R (λ p. view v W H (lowBits f) (p -ᵖ (pos (placeOf far), pos (placeOf far)))) d′
 
-abbrev pub Packed : ℕ → ℕ → ℕ → ℕ → ℕ → List ℕ → List ℕ → Bool → List ℕ → Type 0
-Packed v W H C R f d r d′ = Fitted (packFits v W H C R (length f) (length d)) (FramePacked v W H C R f d d′) d r d′
+abbrev pub Packed : ℕ → Bool → ℕ → ℕ → ℕ → ℕ → List ℕ → List ℕ → Bool → List ℕ → Type 0
+Packed v far W H C R f d r d′ = Fitted (packFits v far W H C R (length f) (length d)) (FramePacked v far W H C R f d d′) d r d′
 
 -- ---- the stage
 

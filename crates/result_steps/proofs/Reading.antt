@@ -7,20 +7,19 @@ use native.Mathlib.Omega.{arith}
 use borrow.Author.Tests.{eq-eqb, ne-eqb}
 use lib.IntN.{ℤ, pos, negsuc, negℤ, _-ℤ_}
 use Rattle.plane.specs.Point.{Point, _+ᵖ_, negᵖ}
-use Rattle.plane.proofs.Algebra.{+ᵖ-origin}
+use Rattle.plane.proofs.Algebra.{+ᵖ-assoc, +ᵖ-origin, subᵖ-cancel}
 use Rattle.plane.proofs.Integer.{diff-ge, diff-lt}
 use Rattle.plane.proofs.Tests.{lt-or-le}
 use Rattle.words.specs.Word.{placeX, placeY}
 use Rattle.shapes.specs.Plan.{placed, planMasks, planOffset}
-use Rattle.grids.specs.Frame.{free}
-use Rattle.grids.specs.Grid.{grid, put}
+use Rattle.grids.specs.Grid.{outsideOf, corner, gridBytes, grid, put}
 use Rattle.grids.specs.Image.{cells}
 use Rattle.cuts.specs.Cuts.{cutOut}
 use Rattle.ranges.specs.Ranges.{overFront}
 use Rattle.planes.specs.Planes.{planeCells}
 use Rattle.cleaning.specs.declared.Operation.{Operation}
 use Rattle.cleaning.specs.declared.Operation.the-variants.{Dilation, Erosion, Opening, Closing}
-use Rattle.cleaning.specs.Operation.{lastGrid, readAt, inTurn}
+use Rattle.cleaning.specs.Operation.{around, lastGrid, readAt, inTurn}
 use Rattle.result_steps.specs.Cutting.{distance, CutAway}
 
 -- as far the other way
@@ -41,40 +40,51 @@ back f h = ⊎-elim
     (lt-or-le 15 f))
     (lt-or-le f 15)
 
+-- 15 farther, where the grid starts 15 before
+farther : (x y : ℕ) → (pos (x + 15) -ℤ pos 15, pos (y + 15) -ℤ pos 15) ≡ (pos x -ℤ pos 15, pos y -ℤ pos 15) +ᵖ (pos 15, pos 15)
+unfolding _+ᵖ_ negᵖ
+farther x y = ap₂ (λ (a b : ℤ). (a, b)) (one x) (one y) ∙ sym (subᵖ-cancel (pos x, pos y) (pos 15, pos 15))
+  where
+    one : (n : ℕ) → pos (n + 15) -ℤ pos 15 ≡ pos n
+    one n = let e : n + 15 - 15 ≡ n = omega arith in diff-ge (n + 15) 15 (omega arith) ∙ ap pos e
+
 pub read-ahead : (op : Operation) (w : ℕ) (p : Point) → placeX w ≤ 30 → placeY w ≤ 30
-    → p +ᵖ (pos (distance op (placeX w)) -ℤ pos 15, pos (distance op (placeY w)) -ℤ pos 15) ≡ readAt op (placed w) p
+    → p +ᵖ (pos (distance op (placeX w)) -ℤ pos 15, pos (distance op (placeY w)) -ℤ pos 15) ≡ readAt op (placed w) p +ᵖ corner (around op)
 unfolding negᵖ
-read-ahead Dilation w p h k = ap (λ q. p +ᵖ q) (ap₂ (λ (x y : ℤ). (x, y)) (sym (back (placeX w) h)) (sym (back (placeY w) k)))
-read-ahead Erosion w p h k = refl
-read-ahead Opening w p h k = +ᵖ-origin p
-read-ahead Closing w p h k = +ᵖ-origin p
+read-ahead Dilation w p h k =
+    ap (λ q. p +ᵖ q) (ap₂ (λ (x y : ℤ). (x, y)) (sym (back (placeX w) h)) (sym (back (placeY w) k))) ∙ sym (+ᵖ-origin (readAt Dilation (placed w) p))
+read-ahead Erosion w p h k = ap (λ q. p +ᵖ q) (farther (placeX w) (placeY w)) ∙ sym (+ᵖ-assoc p (placed w) (pos 15, pos 15))
+read-ahead Opening w p h k = refl
+read-ahead Closing w p h k = refl
 
 -- what is cut out of the last grid
 pub cut-turn : (op : Operation) (plan : List ℕ) (W H : ℕ) (f g : List ℕ) (w : ℕ) → planOffset plan ≡ placed w → placeX w ≤ 30 → placeY w ≤ 30
-    → g ≡ lastGrid op W H (planMasks plan) (put W H f)
-    → cutOut free W H (W + 15) (H + 15) (distance op (placeX w)) (distance op (placeY w)) g ≡ inTurn op W H f (planOffset plan) (planMasks plan)
+    → g ≡ lastGrid op W H (planMasks plan) (put (around op) W H f)
+    → cutOut (outsideOf (around op)) W H (W + 15) (H + 15) (distance op (placeX w)) (distance op (placeY w)) g
+    ≡ inTurn op W H f (planOffset plan) (planMasks plan)
 unfolding cutOut inTurn put
 cut-turn op plan W H f g w d h k e =
     ap (cells W H) (fun-ext (λ p.
-    ap (grid free W H g) (read-ahead op w p h k ∙ ap (λ q. readAt op q p) (sym d))
-    ∙ ap (λ z. grid free W H z (readAt op (planOffset plan) p)) e))
+    ap (gridBytes (around op) W H g) (read-ahead op w p h k ∙ ap (λ q. readAt op q p +ᵖ corner (around op)) (sym d))
+    ∙ ap (λ z. grid (around op) W H z (readAt op (planOffset plan) p)) e))
 
--- the cut of the plane p at the distances a and b
-abbrev cutAt : ℕ → ℕ → ℕ → ℕ → List ℕ → List ℕ
-cutAt W H a b p = cutOut free W H (W + 15) (H + 15) a b (planeCells (W + 15) (H + 15) p)
+-- the cut of the plane p at the distances a and b, with v outside
+abbrev cutAt : ℕ → ℕ → ℕ → ℕ → ℕ → List ℕ → List ℕ
+cutAt v W H a b p = cutOut v W H (W + 15) (H + 15) a b (planeCells (W + 15) (H + 15) p)
 
--- the cut from one image into the other, at the distances that were worked out
-module _ {op : Operation} (place : ℕ) {W H t a b : ℕ} {i j : List ℕ} where
-  pub away-first : {j′ : List ℕ} → a ≡ distance op (placeX place) → b ≡ distance op (placeY place) → t % 2 ≡ 0 → j′ ≡ overFront (W * H) (cutAt W H a b i) j
+-- the cut from one image into the other, at the distances and with the value outside that were worked out
+module _ {op : Operation} (place : ℕ) {v W H t a b : ℕ} {i j : List ℕ} where
+  pub away-first : {j′ : List ℕ} → a ≡ distance op (placeX place) → b ≡ distance op (placeY place) → v ≡ outsideOf (around op) → t % 2 ≡ 0
+      → j′ ≡ overFront (W * H) (cutAt v W H a b i) j
       → CutAway op place W H t i j i j′
-  away-first p q e c = let v = eq-eqb (t % 2) 0 e in record { from = rw v; to = rw (v, sym p, sym q) c }
+  away-first p q o e c = let z = eq-eqb (t % 2) 0 e in record { from = rw z; to = rw (z, sym p, sym q, sym o) c }
 
-  pub away-second : {i′ : List ℕ} → a ≡ distance op (placeX place) → b ≡ distance op (placeY place) → (t % 2 ≡ 0 → ⊥)
-      → i′ ≡ overFront (W * H) (cutAt W H a b j) i → CutAway op place W H t i j i′ j
-  away-second p q e c = let v = ne-eqb (t % 2) 0 e in record { from = rw v; to = rw (v, sym p, sym q) c }
+  pub away-second : {i′ : List ℕ} → a ≡ distance op (placeX place) → b ≡ distance op (placeY place) → v ≡ outsideOf (around op) → (t % 2 ≡ 0 → ⊥)
+      → i′ ≡ overFront (W * H) (cutAt v W H a b j) i → CutAway op place W H t i j i′ j
+  away-second p q o e c = let z = ne-eqb (t % 2) 0 e in record { from = rw z; to = rw (z, sym p, sym q, sym o) c }
 
 -- the distances are small
-pub ahead-small : (op : Operation) (f : ℕ) → f ≤ 30 → distance op f ≤ 30
+pub ahead-small : (op : Operation) (f : ℕ) → f ≤ 30 → distance op f ≤ 45
 ahead-small Dilation f h = omega arith
 ahead-small Erosion f h = omega arith
 ahead-small Opening f h = omega arith

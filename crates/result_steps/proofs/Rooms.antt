@@ -17,7 +17,7 @@ pub room-planes : {W H : ℕ} {i j : List ℕ} → Room W H i j → PlaneRoom W 
 room-planes {W} {H} r = let f = plane-fits W H in record { sides = r .sides; first = omega (arith, r .first); second = omega (arith, r .second) }
 
 module _ {W H : ℕ} {i j : List ℕ} (r : Room W H i j) (p d : List ℕ) (hp : gridSize W H ≤ length p) (hd : gridSize W H ≤ length d) where
-  pub room-cut : (a b : ℕ) → a ≤ 30 → b ≤ 30 → T (unpackFits W H (W + 15) (H + 15) a b (length p) (length d))
+  pub room-cut : (a b : ℕ) → a ≤ 45 → b ≤ 45 → T (unpackFits W H (W + 15) (H + 15) a b (length p) (length d))
   room-cut a b ha hb =
       let s = sides W H (r .sides) in
       grid-unpack W H (s .0) (s .1) W H a b (length p) (length d) (omega arith) (omega arith) (omega arith) (omega arith) (omega (arith, plane-fits W H))

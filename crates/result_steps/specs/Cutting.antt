@@ -4,25 +4,29 @@ use mathlib.Core.Path.{_≡_}
 use mathlib.Core.List.{List}
 use Prim.Native.Nat.{ℕ, _+_, _-_, _*_}
 use Rattle.words.specs.Word.{placeX, placeY}
-use Rattle.grids.specs.Frame.{free, gridSize}
+use Rattle.grids.specs.Frame.{gridSize}
+use Rattle.grids.specs.Grid.{outsideOf}
 use Rattle.ranges.specs.Ranges.{overFront}
 use Rattle.cuts.specs.Cuts.{cutOut}
 use Rattle.planes.specs.Planes.{planeCells}
 use Rattle.cleaning.specs.declared.Operation.{Operation}
 use Rattle.cleaning.specs.declared.Operation.the-variants.{Dilation, Erosion, Opening, Closing}
 use Rattle.cleaning.specs.Cleaning.{resultImage}
+use Rattle.cleaning.specs.Operation.{around}
 use Rattle.turn_steps.specs.Turns.{standingImage, Roomed}
 
--- 15 more than what is added to x, or to y, where the place's field for it is f, at most 30
+-- 15 more than what is added to x, or to y, to find the byte of the grid that is read, where the place's field for it is f, at most 30; erosion's grid starts
+-- at −15
 abbrev pub distance : Operation → ℕ → ℕ
 distance Dilation f = 30 - f
-distance Erosion f = f
+distance Erosion f = f + 15
 distance Opening f = 15
 distance Closing f = 15
 
 -- W columns and H rows cut out of the cells of the plane p, at the distances that the place's fields give
 abbrev pub awayCells : Operation → ℕ → ℕ → ℕ → List ℕ → List ℕ
-awayCells op place W H p = cutOut free W H (W + 15) (H + 15) (distance op (placeX place)) (distance op (placeY place)) (planeCells (W + 15) (H + 15) p)
+awayCells op place W H p = cutOut (outsideOf (around op)) W H (W + 15) (H + 15) (distance op (placeX place)) (distance op (placeY place))
+    (planeCells (W + 15) (H + 15) p)
 
 -- images that are long enough for the grid
 abbrev pub Room : ℕ → ℕ → List ℕ → List ℕ → Type 0

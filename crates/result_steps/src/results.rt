@@ -3,9 +3,12 @@ use cleaning::Operation;
 ghost use mathlib.Core.Path.{_≡_};
 ghost use Prim.Native.Nat.{_≤_};
 ghost use Rattle.words.specs.Word.{placeX, placeY};
+ghost use Rattle.grids.specs.Grid.{outsideOf};
+ghost use Rattle.cleaning.specs.Operation.{around};
 ghost use Rattle.result_steps.specs.Cutting.{distance, Room, CutAway};
 
-// 15 more than what is added to a coordinate of the result to find the cell that is read, from the place's field for that coordinate.
+// 15 more than what is added to a coordinate of the result to find the byte that is read, from the place's field for that coordinate. The grid of erosion
+// starts 15 columns and rows before the others.
 fn ahead(op: Operation, field: u32) -> usize
     requires { ⌜ field ≤ 30 ⌝ }
     ensures { λ r. ⌜ r ≡ distance op field ⌝ }
@@ -13,13 +16,25 @@ fn ahead(op: Operation, field: u32) -> usize
     let back = 30 - field;
     match op {
         Operation::Dilation => back as usize,
-        Operation::Erosion => field as usize,
+        Operation::Erosion => field as usize + 15,
         Operation::Opening => 15,
         Operation::Closing => 15,
     }
 }
 
-// The cut after t stages. Cells outside the grid are free.
+// The value of cells outside the grid: occupied for erosion alone.
+fn beyond(op: Operation) -> u8
+    ensures { λ r. ⌜ r ≡ outsideOf (around op) ⌝ }
+{
+    match op {
+        Operation::Dilation => 0,
+        Operation::Erosion => 1,
+        Operation::Opening => 0,
+        Operation::Closing => 0,
+    }
+}
+
+// The cut after t stages.
 pub(crate) fn cut(
     op: Operation,
     place: u32,
@@ -34,9 +49,10 @@ pub(crate) fn cut(
 {
     let a = ahead(op, place % 256);
     let b = ahead(op, place / 256 % 256);
+    let v = beyond(op);
     if t % 2 == 0 {
-        plane_unpack_steps::unpack(first, second, w, h, w + 15, h + 15, a, b, 0);
+        plane_unpack_steps::unpack(first, second, w, h, w + 15, h + 15, a, b, v);
         return;
     }
-    plane_unpack_steps::unpack(second, first, w, h, w + 15, h + 15, a, b, 0);
+    plane_unpack_steps::unpack(second, first, w, h, w + 15, h + 15, a, b, v);
 }

@@ -20,6 +20,7 @@ use Rattle.words.proofs.Kept.{can-keep}
 use Rattle.words.proofs.Refusals.{stated-once}
 use Rattle.shapes.specs.Plan.{planPoints, planTests}
 use Rattle.grids.specs.Frame.{free, greater, frame, badCell}
+use Rattle.grids.specs.declared.Around.the-variants.{Free}
 use Rattle.grids.specs.Image.{cells, dilated}
 use Rattle.grids.proofs.Pictures.{getD-cells, length-cells}
 use Rattle.grids.proofs.Putting.{frame-binary}
@@ -58,7 +59,7 @@ says-dilated : (P : List Point) (W H : ℕ) (f : List ℕ) → T (not (badCell f
 says-dilated P W H f t p = go (ℕ-discrete v 1)
   where
     b : Binary (frame free W H f)
-    b = frame-binary W H f (binary f t)
+    b = frame-binary Free W H f (binary f t)
 
     v : ℕ
     v = dilated greater free P (frame free W H f) p

@@ -11,15 +11,14 @@ use lib.ListN.{length, getD, drop, length-drop, length-map, drop-of-length-le}
 use lib.Seq.{drop-cons}
 use Rattle.words.specs.Word.{stageMask}
 use Rattle.shapes.specs.Plan.{planMasks}
-use Rattle.grids.specs.Frame.{free}
-use Rattle.grids.specs.Grid.{grid, once}
-use Rattle.planes.specs.Planes.{planeSize, PlaneOnly, Shows, stageFits, PlaneTaken}
-use Rattle.planes.proofs.OnGrids.{kept-drop, after-once, grid-stage}
+use Rattle.grids.specs.Image.{view}
+use Rattle.planes.specs.Planes.{planeSize, PlaneOnly, Shows, afterStage, stageFits, PlaneTaken}
+use Rattle.planes.proofs.OnGrids.{kept-drop, grid-stage}
 use Rattle.frame_grounds.proofs.Sides.{sides}
 use Rattle.plane.specs.Point.{Point}
 use Rattle.cleaning.specs.Operation.{through}
 use Rattle.cleaning.specs.Cleaning.{resultImage}
-use Rattle.turn_steps.specs.Turns.{standingImage, Shown, Past, Roomed, PlaneRoom, Turned, Passed}
+use Rattle.turn_steps.specs.Turns.{standingImage, Shown, bytesOnce, Past, Roomed, PlaneRoom, Turned, Passed}
 
 -- ---- planes in images
 
@@ -35,19 +34,25 @@ past-then p q = record { size = q .size ∙ p .size; rest = q .rest ∙ p .rest 
 
 -- images that have room for the plane have it for a stage
 pub room-stage : {W H : ℕ} {i j : List ℕ} → PlaneRoom W H i j → (p d : List ℕ) → planeSize (W + 15) (H + 15) ≤ length p → planeSize (W + 15) (H + 15) ≤ length d
-    → T (stageFits free (W + 15) (H + 15) (length p) (length d))
-room-stage {W} {H} r p d hp hd = let s = sides W H (r .sides) in grid-stage W H (s .0) (s .1) (length p) (length d) hp hd
+    → (v : ℕ) → v ≤ 1 → T (stageFits v (W + 15) (H + 15) (length p) (length d))
+room-stage {W} {H} r p d hp hd v hv = let s = sides W H (r .sides) in grid-stage W H (s .0) (s .1) v (length p) (length d) hv hp hd
 
 -- ---- one turn
 
-module _ {erode : Bool} {m W H t : ℕ} {i j : List ℕ} where
+module _ {erode : Bool} {v m W H t : ℕ} {i j : List ℕ} where
   -- after an even number of stages from the first image into the second
-  pub from-first : {j′ : List ℕ} → t % 2 ≡ 0 → PlaneTaken erode free (W + 15) (H + 15) m i j j′ → Turned erode m W H t i j i j′
+  pub from-first : {j′ : List ℕ} → t % 2 ≡ 0 → PlaneTaken erode v (W + 15) (H + 15) m i j j′ → Turned erode v m W H t i j i j′
   from-first {j′} e s = let b = eq-eqb (t % 2) 0 e in record { from = rw b; to = rw b s }
 
   -- after an odd number from the second into the first
-  pub from-second : {i′ : List ℕ} → (t % 2 ≡ 0 → ⊥) → PlaneTaken erode free (W + 15) (H + 15) m j i i′ → Turned erode m W H t i j i′ j
+  pub from-second : {i′ : List ℕ} → (t % 2 ≡ 0 → ⊥) → PlaneTaken erode v (W + 15) (H + 15) m j i i′ → Turned erode v m W H t i j i′ j
   from-second {i′} e s = let b = ne-eqb (t % 2) 0 e in record { from = rw b; to = rw b s }
+
+-- a plane that shows bytes shows them after the stage
+after-bytes : (erode : Bool) (v W H m : ℕ) (g : List ℕ)
+    → afterStage erode v (W + 15) (H + 15) m (view v (W + 15) (H + 15) g) ≡ view v (W + 15) (H + 15) (bytesOnce erode v W H m g)
+unfolding afterStage bytesOnce
+after-bytes erode v W H m g = refl
 
 -- ---- turn after turn
 
@@ -89,10 +94,10 @@ both-past {W} {H} true i j i′ j′ e p = (subst (λ (x : List ℕ). Past W H i
 both-past {W} {H} false i j i′ j′ e p = (p, subst (λ (x : List ℕ). Past W H j x) (sym e) past-same)
 
 -- between two stages of a plan, of which those before word k were run: n in all, and what is left to run takes the grid that stands to the last one
-pub record Midway (erode : Bool) (plan : List ℕ) (W H t : ℕ) (i j : List ℕ) (k n : ℕ) (i′ j′ : List ℕ) : Type 0 where
+pub record Midway (erode : Bool) (v : ℕ) (plan : List ℕ) (W H t : ℕ) (i j : List ℕ) (k n : ℕ) (i′ j′ : List ℕ) : Type 0 where
   pub stands : List ℕ → List ℕ
-  pub shown : (g : List ℕ) → Shown W H t g i j → Shown W H n (stands g) i′ j′
-  pub left : (g : List ℕ) → through (once erode free W H) (map stageMask (drop k plan)) (stands g) ≡ through (once erode free W H) (planMasks plan) g
+  pub shown : (g : List ℕ) → Shown v W H t g i j → Shown v W H n (stands g) i′ j′
+  pub left : (g : List ℕ) → through (bytesOnce erode v W H) (map stageMask (drop k plan)) (stands g) ≡ through (bytesOnce erode v W H) (planMasks plan) g
   pub first : Past W H i i′
   pub second : Past W H j j′
   pub count : n + 2 ≡ t + k
@@ -101,36 +106,36 @@ pub record Midway (erode : Bool) (plan : List ℕ) (W H t : ℕ) (i j : List ℕ
 pub room-past : {n W H : ℕ} {i j i′ j′ : List ℕ} → Roomed n W H i j → Past W H i i′ → Past W H j j′ → Roomed n W H i′ j′
 room-past r p q = record { sides = r .sides; first = omega (arith, r .first, p .size); second = omega (arith, r .second, q .size) }
 
-module _ {erode : Bool} {plan : List ℕ} {W H t : ℕ} {i j : List ℕ} where
-  pub midway-start : Midway erode plan W H t i j 2 t i j
+module _ {erode : Bool} {v : ℕ} {plan : List ℕ} {W H t : ℕ} {i j : List ℕ} where
+  pub midway-start : Midway erode v plan W H t i j 2 t i j
   midway-start = record { stands = λ g. g; shown = λ g s. s; left = λ g. refl; first = past-same; second = past-same; count = refl }
 
-  pub midway-more : {k n : ℕ} {i′ j′ i″ j″ : List ℕ} → Midway erode plan W H t i j k n i′ j′ → Turned erode (stageMask (getD plan k 0)) W H n i′ j′ i″ j″
+  pub midway-more : {k n : ℕ} {i′ j′ i″ j″ : List ℕ} → Midway erode v plan W H t i j k n i′ j′ → Turned erode v (stageMask (getD plan k 0)) W H n i′ j′ i″ j″
       → k < length plan
-      → Midway erode plan W H t i j (k + 1) (n + 1) i″ j″
+      → Midway erode v plan W H t i j (k + 1) (n + 1) i″ j″
   midway-more {k} {n} {i′} {j′} {i″} {j″} m s h =
       let b = both-past (eqb (n % 2) 0) i′ j′ i″ j″ (s .from) (kept-past W H (s .to .kept)) in record {
-        stands = λ g. once erode free W H (stageMask (getD plan k 0)) (m .stands g);
+        stands = λ g. bytesOnce erode v W H (stageMask (getD plan k 0)) (m .stands g);
         shown = λ g u.
-            subst (λ (x : List ℕ). Shows (W + 15) (H + 15) (grid free W H (once erode free W H (stageMask (getD plan k 0)) (m .stands g))) x)
+            subst (λ (x : List ℕ). Shows (W + 15) (H + 15) (view v (W + 15) (H + 15) (bytesOnce erode v W H (stageMask (getD plan k 0)) (m .stands g))) x)
             (sym (stands-next n i″ j″))
-            (subst (λ (f : Point → ℕ). Shows (W + 15) (H + 15) f (resultImage n i″ j″)) (after-once erode free W H (stageMask (getD plan k 0)) (m .stands g))
-            (s .to .shown (grid free W H (m .stands g)) (m .shown g u)));
+            (subst (λ (f : Point → ℕ). Shows (W + 15) (H + 15) f (resultImage n i″ j″)) (after-bytes erode v W H (stageMask (getD plan k 0)) (m .stands g))
+            (s .to .shown (view v (W + 15) (H + 15) (m .stands g)) (m .shown g u)));
         left = λ g.
-            ap (λ (q : ℕ). through (once erode free W H) (map stageMask (drop q plan)) (once erode free W H (stageMask (getD plan k 0)) (m .stands g)))
+            ap (λ (q : ℕ). through (bytesOnce erode v W H) (map stageMask (drop q plan)) (bytesOnce erode v W H (stageMask (getD plan k 0)) (m .stands g)))
             (add-one k)
-            ∙ sym (ap (λ ws. through (once erode free W H) (map stageMask ws) (m .stands g)) (drop-cons plan k 0 h)) ∙ m .left g;
+            ∙ sym (ap (λ ws. through (bytesOnce erode v W H) (map stageMask ws) (m .stands g)) (drop-cons plan k 0 h)) ∙ m .left g;
         first = past-then (m .first) (b .0);
         second = past-then (m .second) (b .1);
         count = omega (arith, m .count);
       }
 
-  pub midway-end : {k n : ℕ} {i′ j′ : List ℕ} → Midway erode plan W H t i j k n i′ j′ → 2 ≤ k → k ≡ length plan → Passed erode plan W H t i j n i′ j′
+  pub midway-end : {k n : ℕ} {i′ j′ : List ℕ} → Midway erode v plan W H t i j k n i′ j′ → 2 ≤ k → k ≡ length plan → Passed erode v plan W H t i j n i′ j′
   midway-end {k} {n} {i′} {j′} m l e = record {
     count = let c = m .count in omega (arith, length-map (drop 2 plan) stageMask, length-drop 2 plan);
     first = m .first;
     second = m .second;
-    shown = λ g u. subst (λ (x : List ℕ). Shown W H n x i′ j′)
-        (ap (λ ws. through (once erode free W H) (map stageMask ws) (m .stands g)) (sym (drop-of-length-le plan {i = k} (omega arith))) ∙ m .left g)
+    shown = λ g u. subst (λ (x : List ℕ). Shown v W H n x i′ j′)
+        (ap (λ ws. through (bytesOnce erode v W H) (map stageMask ws) (m .stands g)) (sym (drop-of-length-le plan {i = k} (omega arith))) ∙ m .left g)
         (m .shown g u);
   }

@@ -7,20 +7,26 @@ use Prim.Native.Nat.{ℕ, _+_, _%_, _≤_}
 use lib.Dec.{eqb}
 use lib.ListN.{length, drop}
 use Rattle.shapes.specs.Plan.{planMasks}
-use Rattle.grids.specs.Frame.{free, badSize, gridSize}
-use Rattle.grids.specs.Grid.{grid, once}
+use Rattle.masks.specs.Mask.{maskPoints}
+use Rattle.grids.specs.Image.{view, cells}
+use Rattle.grids.specs.Frame.{over, badSize, gridSize}
+use Rattle.grids.specs.Grid.{outsideOf}
 use Rattle.planes.specs.Planes.{planeSize, Shows, PlaneTaken}
 use Rattle.cleaning.specs.declared.Operation.{Operation}
-use Rattle.cleaning.specs.Operation.{through, lastGrid}
+use Rattle.cleaning.specs.Operation.{around, through, lastGrid}
 use Rattle.cleaning.specs.Cleaning.{stagesRun, resultImage}
 
 -- the image in which the plane stands after t stages: the first if t is even, the second if odd, so that the result goes into the other
 abbrev pub standingImage : ℕ → List ℕ → List ℕ → List ℕ
 standingImage t first second = cond (eqb (t % 2) 0) first second
 
--- the plane that stands after t stages shows the grid g
-abbrev pub Shown : ℕ → ℕ → ℕ → List ℕ → List ℕ → List ℕ → Type 0
-Shown W H t g i j = Shows (W + 15) (H + 15) (grid free W H g) (standingImage t i j)
+-- the plane that stands after t stages shows the bytes of the grid g, with the value v outside
+abbrev pub Shown : ℕ → ℕ → ℕ → ℕ → List ℕ → List ℕ → List ℕ → Type 0
+Shown v W H t g i j = Shows (W + 15) (H + 15) (view v (W + 15) (H + 15) g) (standingImage t i j)
+
+-- the bytes of a grid after the single stage of the mask m: where the grid starts is nothing to it (`once-bytes`, grids)
+unfoldable pub bytesOnce : Bool → ℕ → ℕ → ℕ → ℕ → List ℕ → List ℕ
+bytesOnce erode v W H m g = cells (W + 15) (H + 15) (over erode (maskPoints m) (view v (W + 15) (H + 15) g))
 
 -- as many words as a plan list has
 abbrev pub Worded : List ℕ → Type 0
@@ -42,23 +48,23 @@ pub record Past (W H : ℕ) (d d′ : List ℕ) : Type 0 where
   pub rest : drop (gridSize W H) d′ ≡ drop (gridSize W H) d
 
 -- a single stage after t others: from the image in which the plane stands, which is unchanged, into the other
-pub record Turned (erode : Bool) (m W H t : ℕ) (i j i′ j′ : List ℕ) : Type 0 where
+pub record Turned (erode : Bool) (v m W H t : ℕ) (i j i′ j′ : List ℕ) : Type 0 where
   pub from : standingImage t i′ j′ ≡ standingImage t i j
-  pub to : PlaneTaken erode free (W + 15) (H + 15) m (standingImage t i j) (resultImage t i j) (resultImage t i′ j′)
+  pub to : PlaneTaken erode v (W + 15) (H + 15) m (standingImage t i j) (resultImage t i j) (resultImage t i′ j′)
 
 -- all stages of a plan were run, in order, after t others: whatever grid was shown, the grid taken through them is
-pub record Passed (erode : Bool) (plan : List ℕ) (W H t : ℕ) (i j : List ℕ) (r : ℕ) (i′ j′ : List ℕ) : Type 0 where
+pub record Passed (erode : Bool) (v : ℕ) (plan : List ℕ) (W H t : ℕ) (i j : List ℕ) (r : ℕ) (i′ j′ : List ℕ) : Type 0 where
   pub count : r ≡ t + length (planMasks plan)
   pub first : Past W H i i′
   pub second : Past W H j j′
-  pub shown : (g : List ℕ) → Shown W H t g i j → Shown W H r (through (once erode free W H) (planMasks plan) g) i′ j′
+  pub shown : (g : List ℕ) → Shown v W H t g i j → Shown v W H r (through (bytesOnce erode v W H) (planMasks plan) g) i′ j′
 
--- the stages of an operation were run on the plane in the first image
+-- the stages of an operation were run on the plane in the first image, in the kind of grid that the operation works in
 pub record Ended (op : Operation) (plan : List ℕ) (W H : ℕ) (i j : List ℕ) (r : ℕ) (i′ j′ : List ℕ) : Type 0 where
   pub count : r ≡ stagesRun op (length (planMasks plan))
   pub first : Past W H i i′
   pub second : Past W H j j′
-  pub shown : (g : List ℕ) → Shown W H 0 g i j → Shown W H r (lastGrid op W H (planMasks plan) g) i′ j′
+  pub shown : (g : List ℕ) → Shown (outsideOf (around op)) W H 0 g i j → Shown (outsideOf (around op)) W H r (lastGrid op W H (planMasks plan) g) i′ j′
 
 -- what stages can be run on: as many words as a plan has, and images with room for the plane
 pub record Turnable (plan : List ℕ) (W H : ℕ) (i j : List ℕ) : Type 0 where

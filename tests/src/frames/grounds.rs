@@ -1,5 +1,6 @@
 //! The grounds of the three calls: each is asked of a whole frame or image, and stands
-//! by itself. Sizes may be any numbers, so they are multiplied as wider ones.
+//! by itself; the kind of grid has no say in them. Sizes may be any numbers, so they are
+//! multiplied as wider ones.
 
 use super::{Call, Case};
 use crate::reference::grounds::is_stage;
@@ -29,7 +30,7 @@ const STAGE: [Ground; 6] = [
 pub fn holding(case: &Case) -> Vec<i64> {
     let table: &[Ground] = match case.call {
         Call::Load => &LOAD,
-        Call::Put => &PUT,
+        Call::Put { .. } => &PUT,
         Call::Stage { .. } => &STAGE,
     };
     let held = table.iter().filter(|(_, holds)| holds(case));

@@ -1,6 +1,6 @@
 //! Makers of random frames and grids.
 
-use super::{grid_of, stage_word, Case};
+use super::{grid_of, stage_word, Case, AROUND, MODES};
 use crate::random::Random;
 use crate::reference::grounds::is_stage;
 
@@ -75,16 +75,17 @@ impl Maker {
 
     /// A single stage that no ground refuses, with extra bytes in either image.
     pub fn stage(&mut self, size: (usize, usize)) -> Case {
-        let (word, erode) = (self.word(), self.random.once_in(2));
+        let (word, mode) = (self.word(), self.random.pick(&MODES));
         let extra = self.extra();
         let from = self.image(size, extra);
         let to_n = grid_of(size.0, size.1) + self.extra();
-        Case::stage(word, erode, size, &from, to_n)
+        Case::stage(word, mode, size, &from, to_n)
     }
 
     /// Putting that no ground refuses, with extra bytes in the image.
     pub fn put(&mut self, (w, h): (usize, usize)) -> Case {
         let image_n = grid_of(w, h) + self.extra();
-        Case::put(w, h, &self.cells(w * h), image_n)
+        let around = self.random.pick(&AROUND);
+        Case::put(w, h, &self.cells(w * h), around, image_n)
     }
 }

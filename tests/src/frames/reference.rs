@@ -1,8 +1,8 @@
-//! The independent implementation of the three calls, from the words of document 01:
-//! frames and grids are sets of points, the points of their occupied cells.
+//! The independent implementation of the three calls, from the words of documents 01 and
+//! 02: frames and grids are sets of points, the points of their occupied cells.
 
 use super::grounds::holding;
-use super::{grid_of, Call, Case};
+use super::{grid_of, Around, Call, Case};
 use crate::reference::points::{of_mask, Point};
 use std::collections::HashSet;
 
@@ -45,9 +45,50 @@ pub fn minus(x: &Points, a: &[Point]) -> Points {
 
 /// Writes every cell: 1 if its point is in the set, 0 if not. Other points are cut off.
 pub fn lay(points: &Points, width: usize, cells: &mut [u8]) {
+    lay_from(points, 0, width, cells);
+}
+
+/// `lay`, with the first cell at this x and y.
+fn lay_from(points: &Points, start: i64, width: usize, cells: &mut [u8]) {
     for (place, cell) in cells.iter_mut().enumerate() {
-        *cell = u8::from(points.contains(&point_at(place, width)));
+        let (x, y) = point_at(place, width);
+        *cell = u8::from(points.contains(&(x + start, y + start)));
     }
+}
+
+/// Adds the points outside the columns and rows from `start` to before `end`. All others
+/// on the plane would be in the set too; those farther off than `far` are never asked for.
+fn add_outside(points: &mut Points, start: Point, end: Point, far: i64) {
+    for y in start.1 - far..end.1 + far {
+        for x in start.0 - far..end.0 + far {
+            let inside = (start.0..end.0).contains(&x) && (start.1..end.1).contains(&y);
+            if !inside {
+                points.insert((x, y));
+            }
+        }
+    }
+}
+
+/// The frame's occupied points, joined to all points outside it where those are occupied,
+/// as far off as is asked.
+pub fn of_frame((w, h): (usize, usize), frame: &[u8], around: Around, far: i64) -> Points {
+    let mut points = occupied(frame, w);
+    if around == Around::Occupied {
+        add_outside(&mut points, (0, 0), (w as i64, h as i64), far);
+    }
+    points
+}
+
+/// The grid's occupied points and, in the second kind of grid, those outside it that a
+/// mask can reach, which are two off it at most.
+fn of_grid((w, h): (usize, usize), grid: &[u8], around: Around) -> Points {
+    let start = around.start();
+    let inside = occupied(grid, w + 15);
+    let mut points: Points = inside.iter().map(|p| (p.0 + start, p.1 + start)).collect();
+    if around == Around::Occupied {
+        add_outside(&mut points, (start, start), (w as i64, h as i64), 2);
+    }
+    points
 }
 
 /// The whole call: what it answers, and what it writes to the image.
@@ -55,18 +96,24 @@ pub fn run(case: &Case, image: &mut [u8]) -> i64 {
     if let Some(ground) = holding(case).first() {
         return -ground;
     }
-    let (width, grid) = (case.w + 15, grid_of(case.w, case.h));
+    let (size, grid) = ((case.w, case.h), grid_of(case.w, case.h));
     match case.call {
         Call::Load => occupied(&case.read, case.w).len() as i64,
-        Call::Put => {
-            lay(&occupied(&case.read, case.w), width, &mut image[..grid]);
+        Call::Put { around } => {
+            let points = of_frame(size, &case.read, around, 15);
+            lay_from(&points, around.start(), case.w + 15, &mut image[..grid]);
             0
         }
-        Call::Stage { word, erode } => {
-            let x = occupied(&case.read[..grid], width);
+        Call::Stage { word, mode } => {
+            let x = of_grid(size, &case.read[..grid], mode.around);
             let a = of_mask(word & 0x1ff);
-            let made = if erode { minus(&x, &a) } else { plus(&x, &a) };
-            lay(&made, width, &mut image[..grid]);
+            let made = if mode.erode {
+                minus(&x, &a)
+            } else {
+                plus(&x, &a)
+            };
+            let start = mode.around.start();
+            lay_from(&made, start, case.w + 15, &mut image[..grid]);
             0
         }
     }

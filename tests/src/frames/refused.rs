@@ -1,7 +1,7 @@
 //! Cases in which just the chosen grounds hold, so that their order can be tried.
 
 use super::makers::Maker;
-use super::{grid_of, Case};
+use super::{grid_of, Case, AROUND, MODES};
 
 #[derive(Clone, Copy, Debug, PartialEq, Eq)]
 pub enum Kind {
@@ -37,10 +37,13 @@ impl Maker {
         }
         match kind {
             Kind::Load => Case::load(size.0, size.1, &read),
-            Kind::Put => Case::put(size.0, size.1, &read, write_n),
+            Kind::Put => {
+                let around = self.random.pick(&AROUND);
+                Case::put(size.0, size.1, &read, around, write_n)
+            }
             Kind::Stage => {
                 let word = self.word_with(holds(2), holds(3), holds(7));
-                Case::stage(word, self.random.once_in(2), size, &read, write_n)
+                Case::stage(word, self.random.pick(&MODES), size, &read, write_n)
             }
         }
     }

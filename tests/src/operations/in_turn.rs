@@ -1,29 +1,44 @@
-//! What the single stages give in turn: the frame put into a grid by the library, the
-//! grid taken by it through one single stage after the other, and the last grid cut to
-//! the frame here.
+//! What the single stages give in turn: the frame put into a grid of the operation's kind,
+//! the grid taken through one single stage after the other, and the last grid cut to the
+//! frame here. Putting and the stages are the library's or the reference's.
 
 use super::{Case, Op};
-use crate::frames::{grid_of, library};
+use crate::frames::{grid_of, library, reference, Case as Step, Mode};
 
-/// The cells of the result, for a case that no ground refuses.
+/// Runs putting or a single stage, from the bytes read into those written.
+type Run = fn(&Step, &mut [u8]) -> i64;
+
+/// The cells of the result by the library's calls, for a case that no ground refuses.
 pub fn cells(case: &Case) -> Vec<u8> {
-    let (size, grid) = ((case.w, case.h), grid_of(case.w, case.h));
-    let (mut from, mut to) = (vec![7; grid], vec![8; grid]);
-    let answer = library::put(case.w, case.h, &case.frame, &mut from);
-    assert_eq!(answer, 0, "{case}: put");
+    let run = |step: &Step, image: &mut [u8]| library::run(step, &step.read, image);
+    cut(case, &last_grid(case, run))
+}
+
+/// `cells` by the sets of points of the reference's grids.
+pub fn cells_by_points(case: &Case) -> Vec<u8> {
+    cut(case, &last_grid(case, reference::run))
+}
+
+fn last_grid(case: &Case, run: Run) -> Vec<u8> {
+    let (size, grid, around) = ((case.w, case.h), grid_of(case.w, case.h), case.op.around());
+    let mut from = vec![7; grid];
+    let put = Step::put(case.w, case.h, &case.frame, around, grid);
+    assert_eq!(run(&put, &mut from), 0, "{case}: {put}");
     for &erode in case.op.passes() {
         for &word in &case.plan[2..] {
-            let answer = library::stage(word, erode, size, &from, &mut to);
-            assert_eq!(answer, 0, "{case}: stage {word:08x}");
-            std::mem::swap(&mut from, &mut to);
+            let (mode, mut to) = (Mode { erode, around }, vec![8; grid]);
+            let stage = Step::stage(word, mode, size, &from, grid);
+            assert_eq!(run(&stage, &mut to), 0, "{case}: {stage}");
+            from = to;
         }
     }
-    cut(case, &from)
+    from
 }
 
 /// Cell (x, y) is the grid's (x - dx, y - dy) for dilation, (x + dx, y + dy) for erosion
-/// and (x, y) for opening and closing, and free outside the grid.
+/// and (x, y) for opening and closing; outside the grid it is as plane cells there are.
 fn cut(case: &Case, grid: &[u8]) -> Vec<u8> {
+    let (around, start) = (case.op.around(), case.op.around().start());
     let (width, height) = (case.w as i64 + 15, case.h as i64 + 15);
     let (dx, dy) = case.offset();
     let (by_x, by_y) = match case.op {
@@ -32,11 +47,12 @@ fn cut(case: &Case, grid: &[u8]) -> Vec<u8> {
         Op::Open | Op::Close => (0, 0),
     };
     let at = |x: i64, y: i64| {
-        let inside = (0..width).contains(&x) && (0..height).contains(&y);
+        let (column, row) = (x - start, y - start);
+        let inside = (0..width).contains(&column) && (0..height).contains(&row);
         if inside {
-            grid[(y * width + x) as usize]
+            grid[(row * width + column) as usize]
         } else {
-            0
+            around.cell()
         }
     };
     let row = |y: i64| (0..case.w as i64).map(move |x| (x, y));

@@ -6,12 +6,12 @@ use lib.ListN.{length}
 use Rattle.words.specs.Ground.{firstOf}
 use Rattle.words.proofs.Tested.{no-refusal, refused-call}
 use Rattle.cleaning.specs.Cleaning.{operationTests}
-use Rattle.frame_grounds.proofs.Sides.{sides}
-use Rattle.grids.specs.Frame.{free}
-use Rattle.planes.specs.Planes.{packFits}
+use Rattle.grids.specs.Grid.{outsideOf}
+use Rattle.planes.specs.Planes.{farOf, packFits}
+use Rattle.cleaning.specs.Operation.{around}
 use Rattle.result_steps.specs.Running.{Runnable}
 use Rattle.clean_calls.proofs.Accepted.{few-stages}
-use Rattle.clean_calls.proofs.Working.{plan-accepted, sides-pass, packs, runs, ran}
+use Rattle.clean_calls.proofs.Working.{plan-accepted, sides-small, packs, runs, ran}
 use native.Mathlib.Omega.{arith}
 use borrow.Author.Needs.{needs}
 use Rattle.clean_calls.proofs.clean.Statement.{statement}
@@ -26,11 +26,11 @@ passed : (c : tie.After-enum-told) → let a = start c .args in
 passed c = let t = c .before .before .refused in no-refusal (t .result) _ (c .before .match .keys2) (t .ensures)
 
 -- so the frame goes into the plane
-fits : (c : tie.After-enum-told) → let a = start c .args in
-    T (packFits free (a .w) (a .h) (a .w + 15) (a .h + 15) (length (a .frame .now)) (length (a .first .now)))
+fits : (c : tie.After-enum-told) → let a = start c .args in let k = around (a .op) in
+    T (packFits (outsideOf k) (farOf k) (a .w) (a .h) (a .w + 15) (a .h + 15) (length (a .frame .now)) (length (a .first .now)))
 fits c =
     let a = start c .args in
-    packs (a .plan .now) (a .w) (a .h) (a .frame .now) (a .first .now) (a .second .now) (passed c)
+    packs (a .plan .now) (a .w) (a .h) (a .frame .now) (a .first .now) (a .second .now) (passed c) (around (a .op))
 
 -- behind the run: the place where no ground held, and the frame in the plane
 abbrev told : tie.After-run → tie.After-enum-told
@@ -58,34 +58,23 @@ returns c =
 enum-told : tie.Need-enum-told
 enum-told c = search needs
 
-add-pack : tie.Need-add-pack
-add-pack c =
+packed-requires : tie.Need-packed-requires
+packed-requires c κs =
     let k = c .before in
     let a = start k .args in
-    let s = sides (a .w) (a .h) (sides-pass (a .plan .now) (a .w) (a .h) (a .frame .now) (a .first .now) (a .second .now) (passed k)) in
-    record { fits = omega arith }
-
-add-pack-2 : tie.Need-add-pack-2
-add-pack-2 c =
-    let k = c .before in
-    let a = start k .args in
-    let s = sides (a .w) (a .h) (sides-pass (a .plan .now) (a .w) (a .h) (a .frame .now) (a .first .now) (a .second .now) (passed k)) in
-    record { fits = omega arith }
-
-pack-requires : tie.Need-pack-requires
-pack-requires c κs = search needs
+    sides-small (a .plan .now) (a .w) (a .h) (a .frame .now) (a .first .now) (a .second .now) (passed k)
 
 run-requires : tie.Need-run-requires
 run-requires c κs = search needs
 
 -- the frame is packed, so the stages can be run
 able : (c : tie.After-run) → let a = start (told c) .args in
-    Runnable (a .plan .now) (a .w) (a .h) (c .before .before .before .before .before .pack .last .1 .0) (a .second .now)
+    Runnable (a .plan .now) (a .w) (a .h) (c .before .before .before .before .before .packed .last .1 .1 .1 .1 .0) (a .second .now)
 able c =
     let k = told c in
     let a = start k .args in
-    runs (a .plan .now) (a .w) (a .h) (a .frame .now) (a .first .now) (a .second .now) (passed k)
-    (c .before .before .before .before .before .pack .ensures .done (fits k))
+    runs (a .plan .now) (a .w) (a .h) (a .frame .now) (a .first .now) (a .second .now) (passed k) (around (a .op))
+    (c .before .before .before .before .before .packed .ensures .done (fits k))
 
 cast-run : tie.Need-cast-run
 cast-run c =
@@ -108,8 +97,8 @@ returns-2 c =
     let k = told at in
     let a = start k .args in
     let t = at .run .ensures .through (able at) in
-    ran (a .plan .now) (a .w) (a .h) (a .frame .now) (a .first .now) (a .second .now) (passed k)
-    (at .before .before .before .before .before .pack .ensures .done (fits k)) (t .ended) (t .away) _ refl
+    ran (a .plan .now) (a .w) (a .h) (a .frame .now) (a .first .now) (a .second .now) (passed k) (around (a .op))
+    (at .before .before .before .before .before .packed .ensures .done (fits k)) refl (t .ended) (t .away) _ refl
 
 pub clean-spec : {M : Type 1} → statement M
 clean-spec =
@@ -121,9 +110,7 @@ clean-spec =
     same-length-2
     returns
     enum-told
-    add-pack
-    add-pack-2
-    pack-requires
+    packed-requires
     run-requires
     cast-run
     same-length-3

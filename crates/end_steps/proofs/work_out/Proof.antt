@@ -2,6 +2,7 @@
 use native.Mathlib.Omega.{arith}
 use borrow.Author.Needs.{needs}
 use borrow.Author.Tests.{eq-eqb, ne-eqb}
+use mathlib.Core.Bool.{false}
 use mathlib.Core.Path.{_≡_, sym, _∙_, subst}
 use mathlib.Core.List.{List}
 use Prim.Native.Nat.{ℕ, _+_, _%_}
@@ -26,11 +27,11 @@ start c = c .before .before .before .before .before
 
 -- the part is packed
 packed : (c : tie.After-pack) → let a = start c .args in
-    FramePacked free (a .w) (a .e) (a .w + 15) (a .e + 15) (a .part .now) zeros (c .pack .last .1 .0)
+    FramePacked free false (a .w) (a .e) (a .w + 15) (a .e + 15) (a .part .now) zeros (c .pack .last .1 .0)
 packed c =
     let a = start c .args in
     c .pack .ensures .done
-    (subst (λ n. T (packFits free (a .w) (a .e) (a .w + 15) (a .e + 15) (length (a .part .now)) n)) (sym zeros-long) (end-packs (start c .pre)))
+    (subst (λ n. T (packFits free false (a .w) (a .e) (a .w + 15) (a .e + 15) (length (a .part .now)) n)) (sym zeros-long) (end-packs (start c .pre)))
 
 abbrev pack : tie.After-stages → tie.After-pack
 pack c = c .before .before .before .before

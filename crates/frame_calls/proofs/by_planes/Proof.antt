@@ -4,6 +4,9 @@ use Rattle.frame_calls.proofs.Fitting.{packs, stages, unpacks, stage-wr
 use Rattle.frame_calls.proofs.by_planes.Statement.{statement}
 use Rattle.frame_calls.proofs.by_planes.Tie as tie
 
+outside-requires : tie.Need-outside-requires
+outside-requires c κs = search needs
+
 add-pack : tie.Need-add-pack
 add-pack c = search needs
 
@@ -51,20 +54,23 @@ same-length-2 c = search needs
 
 returns : tie.Need-returns
 returns c =
-    let st = c .before .before .before .before .before .before .before .before .before .before .before .before .before .before .before .before .before in
+    let t = c .before .before .before .before .before .before .before .before .before .before .before .before .before .before in
+    let st = t .before .before .before .before in
     let x = st .args in
     let r = st .pre .0 in
-    let p = c .before .before .before .before .before .before .before .before .before .before .before .before .pack .ensures .done
-    (packs (x .erode) (x .w) (x .h) (x .mask) r) in
-    let s = c .before .before .before .before .before .before .before .stage .ensures .done
-    (stages (x .erode) (x .w) (x .h) (x .mask) r p (x .plane .now) (st .pre .1)) in
-    stage-written (x .erode) (x .w) (x .h) (x .mask) r p s
-    (c .before .before .unpack .ensures .done (unpacks (x .erode) (x .w) (x .h) (x .mask) r p s (st .pre .1)))
+    let o = t .outside .ensures in
+    let p = rw o at (c .before .before .before .before .before .before .before .before .before .before .before .before .pack .ensures) .done
+    (packs (x .erode) (x .around) (x .w) (x .h) (x .mask) r) in
+    let s = rw o at (c .before .before .before .before .before .before .before .stage .ensures) .done
+    (stages (x .erode) (x .around) (x .w) (x .h) (x .mask) r p (x .plane .now) (st .pre .1)) in
+    stage-written (x .erode) (x .around) (x .w) (x .h) (x .mask) r p s
+    (rw o at (c .before .before .unpack .ensures) .done (unpacks (x .erode) (x .around) (x .w) (x .h) (x .mask) r p s (st .pre .1)))
 
 pub by-planes-spec : {M : Type 1} → statement M
 by-planes-spec =
     tie.close
     (tie.spec
+    outside-requires
     add-pack
     add-pack-2
     add-pack-3

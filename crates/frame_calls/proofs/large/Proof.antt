@@ -1,5 +1,6 @@
 -- The longest plane has room for every one.
 use borrow.Author.Needs.{needs}
+use Rattle.grids.specs.declared.Around.the-variants.{Free}
 use Rattle.frame_calls.proofs.Fitting.{plane-large}
 use Rattle.frame_calls.proofs.large.Statement.{statement}
 use Rattle.frame_calls.proofs.large.Tie as tie
@@ -9,7 +10,7 @@ slice-aggregate-by-planes c = search needs
 
 by-planes-requires : tie.Need-by-planes-requires
 by-planes-requires c κs =
-    let st = c .before .before .before .before in (st .pre, plane-large (st .args .erode) (st .args .w) (st .args .h) (st .args .mask) (st .pre))
+    let st = c .before .before .before .before in (st .pre, plane-large (st .args .erode) Free (st .args .w) (st .args .h) (st .args .mask) (st .pre))
 
 same-length : tie.Need-same-length
 same-length c = search needs

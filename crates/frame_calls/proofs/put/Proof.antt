@@ -28,9 +28,15 @@ returns c =
 enum-told : tie.Need-enum-told
 enum-told c = search needs
 
+distance-requires : tie.Need-distance-requires
+distance-requires c κs = search needs
+
+outside-requires : tie.Need-outside-requires
+outside-requires c κs = search needs
+
 add-cut : tie.Need-add-cut
 add-cut c =
-    let k = c .before .before in
+    let k = c .before .before .before .before in
     let t = k .before .put-refusal in
     let a = k .before .before .before .before .before .args in
     let b = sides (a .w) (a .h) (put-sides (a .w) (a .h) (a .frame .now) (a .image .now) (no-refusal (t .result) _ (k .match .keys2) (t .ensures))) in
@@ -38,7 +44,7 @@ add-cut c =
 
 add-cut-2 : tie.Need-add-cut-2
 add-cut-2 c =
-    let k = c .before .before in
+    let k = c .before .before .before .before in
     let t = k .before .put-refusal in
     let a = k .before .before .before .before .before .args in
     let b = sides (a .w) (a .h) (put-sides (a .w) (a .h) (a .frame .now) (a .image .now) (no-refusal (t .result) _ (k .match .keys2) (t .ensures))) in
@@ -52,11 +58,14 @@ same-length-2 c = search needs
 
 returns-2 : tie.Need-returns-2
 returns-2 c =
-    let k = c .before .before .before .before .before in
+    let k = c .before .before .before .before .before .before .before in
     let t = k .before .put-refusal in
     let a = k .before .before .before .before .before .args in
     let p = c .before .before .cut in
-    put-done (a .w) (a .h) (a .frame .now) (a .image .now) (no-refusal (t .result) _ (k .match .keys2) (t .ensures)) (p .result) _ _ refl (p .ensures)
+    let d = c .before .before .before .before .before .distance in
+    let v = c .before .before .before .before .outside in
+    put-done (a .w) (a .h) (a .frame .now) (a .image .now) (no-refusal (t .result) _ (k .match .keys2) (t .ensures)) (a .around) (d .result) (v .result)
+    (d .ensures) (v .ensures) (p .result) _ _ refl (p .ensures)
 
 pub put-spec : {M : Type 1} → statement M
 put-spec =
@@ -67,6 +76,8 @@ put-spec =
     same-length
     returns
     enum-told
+    distance-requires
+    outside-requires
     add-cut
     add-cut-2
     cut-requires

@@ -44,8 +44,8 @@ returns-2 c =
     let k = c .before .before .before .before .before in
     let t = k .before .stage-refusal in
     let a = k .before .before .before .before .before .args in
-    stage-done (a .word) (a .w) (a .h) (a .from .now) (a .to .now) (no-refusal (t .result) _ (k .match .keys2) (t .ensures)) (a .erode) _ _ refl
-    (c .before .before .through .ensures)
+    stage-done (a .word) (a .w) (a .h) (a .from .now) (a .to .now) (no-refusal (t .result) _ (k .match .keys2) (t .ensures)) (a .erode) (a .around) _ _
+    refl (c .before .before .through .ensures)
 
 pub stage-spec : {M : Type 1} → statement M
 stage-spec =

@@ -1,109 +1,107 @@
--- The rows below y are packed, the others have the value outside; the measure is what is left of the frame's rows.
+-- The value outside everywhere, then a first row that ends a row of bytes, and then the groups.
+use native.Mathlib.Omega.{arith}
 use borrow.Author.Needs.{needs}
 use native.Mathlib.Omega.{arith}
-use Prim.Native.Nat.{_-_, zero-le}
+use Prim.Native.Nat.{zero-le}
 use Rattle.ranges.proofs.Ranges.{ranged-part}
-use Rattle.plane_pack_steps.proofs.PackRows.{group-fits, room-for, Filling, filling-none, filling-more, filling-all}
+use Rattle.plane_pack_steps.proofs.PackRows.{room-for}
+use Rattle.plane_pack_steps.proofs.LeadRow.{lead-room, none-packed, begun-near, begun-far, then-packed}
 use Rattle.plane_pack_steps.proofs.fill.Statement.{statement}
 use Rattle.plane_pack_steps.proofs.fill.Tie as tie
 
-abbrev Inv-loop : tie.InvT-loop
-Inv-loop f dst₀ w h gw gh outside s n v p₀ q₀ y₀ dst p q y = Filling outside w h gw gh f dst₀ dst p q y
-
-abbrev μ-loop : tie.MeasureT-loop
-μ-loop f dst₀ w h gw gh outside s n v p₀ q₀ y₀ dst p q y = h - y
-
-add-s : tie.Need-add-s Inv-loop μ-loop
+add-s : tie.Need-add-s
 add-s c = search needs
 
-add-n : tie.Need-add-n Inv-loop μ-loop
+add-n : tie.Need-add-n
 add-n c = search needs
 
-mul-v : tie.Need-mul-v Inv-loop μ-loop
+mul-v : tie.Need-mul-v
 mul-v c = search needs
 
-mul-fill : tie.Need-mul-fill Inv-loop μ-loop
+mul-fill : tie.Need-mul-fill
 mul-fill c = search needs
 
-mul-fill-2 : tie.Need-mul-fill-2 Inv-loop μ-loop
+mul-fill-2 : tie.Need-mul-fill-2
 mul-fill-2 c = search needs
 
-add-fill : tie.Need-add-fill Inv-loop μ-loop
+add-fill : tie.Need-add-fill
 add-fill c = search needs
 
-add-fill-2 : tie.Need-add-fill-2 Inv-loop μ-loop
+add-fill-2 : tie.Need-add-fill-2
 add-fill-2 c = search needs
 
-sub-fill : tie.Need-sub-fill Inv-loop μ-loop
+sub-fill : tie.Need-sub-fill
 sub-fill c = search needs
 
-part-fill-start : tie.Need-part-fill-start Inv-loop μ-loop
+part-fill-start : tie.Need-part-fill-start
 part-fill-start c = search needs
 
-part-fill-end : tie.Need-part-fill-end Inv-loop μ-loop
+part-fill-end : tie.Need-part-fill-end
 part-fill-end c = search needs
 
-fill-requires : tie.Need-fill-requires Inv-loop μ-loop
+fill-requires : tie.Need-fill-requires
 fill-requires c κs = search needs
 
-add-p : tie.Need-add-p Inv-loop μ-loop
-add-p c = search needs
-
-loop-holds : tie.Need-loop-holds Inv-loop μ-loop
-loop-holds c =
-    let k = c .before .before .before .before .before .before .pre in
-    filling-none k (ranged-part {a = 0} zero-le (room-for k) (c .before .before .fill .ensures))
-
-sub-next : tie.Need-sub-next Inv-loop μ-loop
-sub-next c = search needs
-
-next-requires : tie.Need-next-requires Inv-loop μ-loop
-next-requires c κs =
-    let k = c .before .before .before .before .before .before .before .before .before .pre in
-    let g = group-fits k (c .before .before .loop .y) (omega arith) in
-    (omega (arith, k .wide, k .columns), omega arith, omega arith)
-
-add-p-2 : tie.Need-add-p-2 Inv-loop μ-loop
-add-p-2 c =
-    let g = group-fits (c .before .before .before .before .before .before .before .before .before .before .before .before .pre)
-    (c .before .before .before .before .before .loop .y) (omega arith) in omega arith
-
-mul-q : tie.Need-mul-q Inv-loop μ-loop
-mul-q c = search needs
-
-add-q : tie.Need-add-q Inv-loop μ-loop
-add-q c =
-    let g = group-fits (c .before .before .before .before .before .before .before .before .before .before .before .before .pre)
-    (c .before .before .before .before .before .loop .y) (omega arith) in omega arith
-
-add-y : tie.Need-add-y Inv-loop μ-loop
-add-y c = search needs
-
-loop-less : tie.Need-loop-less Inv-loop μ-loop
-loop-less c = search needs
-
-loop-again : tie.Need-loop-again Inv-loop μ-loop
-loop-again c =
-    let k = c .before .before .before .before .before .before .before .before .before .before .before .before .pre in
-    let l = c .before .before .before .before .before .loop in
-    filling-more k {p = l .p} {q = l .q} {y = l .y} (l .inv) (c .before .before .before .before .loop-test .taken) (c .before .before .next .ensures)
-
-same-length : tie.Need-same-length Inv-loop μ-loop
+same-length : tie.Need-same-length
 same-length c = search needs
 
-returns : tie.Need-returns Inv-loop μ-loop
+returns : tie.Need-returns
 returns c =
-    let k = c .before .before .before .before .before .before .before .before .pre in
-    let l = c .before .loop in
-    filling-all k {p = l .p} {q = l .q} {y = l .y} (l .inv) (c .loop-test .left)
-    (ranged-part {a = 0} zero-le (room-for k) (c .before .before .before .before .fill .ensures))
+    let k = c .before .before .before .before .before .before .before .pre in
+    none-packed k (ranged-part {a = 0} zero-le (room-for k) (c .before .before .before .fill .ensures)) (omega arith)
+
+mul-lead : tie.Need-mul-lead
+mul-lead c = search needs
+
+add-lead : tie.Need-add-lead
+add-lead c = search needs
+
+lead-requires : tie.Need-lead-requires
+lead-requires c κs =
+    let st = c .before .before .before .before .before .before .before .before .before in
+    let r = ranged-part {a = 0} zero-le (room-for (st .pre)) (c .before .before .before .before .before .fill .ensures) in
+    lead-room (st .args .far) (c .before .if2 .taken) (st .pre) (omega arith) r
+
+grouped-requires : tie.Need-grouped-requires
+grouped-requires c κs =
+    let st = c .before .before .before .before .before .before .before .before .before .before .before .before .before in
+    let r = ranged-part {a = 0} zero-le (room-for (st .pre)) (c .before .before .before .before .before .before .before .before .before .fill .ensures) in
+    let g = begun-far (st .args .far) (c .before .before .before .before .before .if2 .taken) (st .pre) (omega arith) r
+    (c .before .before .before .lead .ensures) in
+    (g .packs, g .leads, g .shown)
+
+same-length-2 : tie.Need-same-length-2
+same-length-2 c = search needs
+
+returns-2 : tie.Need-returns-2
+returns-2 c =
+    let l = c .before .before .before .before .before .before in
+    let st = l .before .before .before .before .before .before .before .before .before .before in
+    let r = ranged-part {a = 0} zero-le (room-for (st .pre)) (l .before .before .before .before .before .before .fill .ensures) in
+    let g = begun-far (st .args .far) (l .before .before .if2 .taken) (st .pre) (omega arith) r (l .lead .ensures) in
+    then-packed g (c .before .before .grouped .ensures)
+
+grouped-requires-2 : tie.Need-grouped-requires-2
+grouped-requires-2 c κs =
+    let st = c .before .before .before .before .before .before .before .before .before in
+    let r = ranged-part {a = 0} zero-le (room-for (st .pre)) (c .before .before .before .before .before .fill .ensures) in
+    let g = begun-near (st .args .far) (c .before .if2 .left) (st .pre) r in
+    (g .packs, g .leads, g .shown)
+
+same-length-3 : tie.Need-same-length-3
+same-length-3 c = search needs
+
+returns-3 : tie.Need-returns-3
+returns-3 c =
+    let st = c .before .before .before .before .before .before .before .before .before .before .before .before in
+    let r = ranged-part {a = 0} zero-le (room-for (st .pre)) (c .before .before .before .before .before .before .before .before .fill .ensures) in
+    let g = begun-near (st .args .far) (c .before .before .before .before .if2 .left) (st .pre) r in
+    then-packed g (c .before .before .grouped2 .ensures)
 
 pub fill-spec : {M : Type 1} → statement M
 fill-spec =
     tie.close
     (tie.spec
-    Inv-loop
-    μ-loop
     add-s
     add-n
     mul-v
@@ -115,15 +113,14 @@ fill-spec =
     part-fill-start
     part-fill-end
     fill-requires
-    add-p
-    loop-holds
-    sub-next
-    next-requires
-    add-p-2
-    mul-q
-    add-q
-    add-y
-    loop-less
-    loop-again
     same-length
-    returns)
+    returns
+    mul-lead
+    add-lead
+    lead-requires
+    grouped-requires
+    same-length-2
+    returns-2
+    grouped-requires-2
+    same-length-3
+    returns-3)

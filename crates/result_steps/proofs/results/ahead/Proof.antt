@@ -17,6 +17,9 @@ cast-result c = search needs
 enum-told-2 : tie.Need-enum-told-2
 enum-told-2 c = search needs
 
+add-result : tie.Need-add-result
+add-result c = search needs
+
 enum-told-3 : tie.Need-enum-told-3
 enum-told-3 c = search needs
 
@@ -27,7 +30,7 @@ returns : tie.Need-returns
 returns c = ap (λ o. distance o (c .before .before .args .field)) (sym (c .enum-told .given .1))
 
 returns-2 : tie.Need-returns-2
-returns-2 c = search needs
+returns-2 c = ap (λ o. distance o (c .before .before .args .field)) (sym (c .enum-told2 .given .1))
 
 returns-3 : tie.Need-returns-3
 returns-3 c = search needs
@@ -43,6 +46,7 @@ ahead-spec =
     enum-told
     cast-result
     enum-told-2
+    add-result
     enum-told-3
     enum-told-4
     returns

@@ -8,10 +8,11 @@ use Rattle.turn_steps.proofs.turns.pass.Statement.{statement}
 use Rattle.turn_steps.proofs.turns.pass.Tie as tie
 
 abbrev Inv-loop : tie.InvT-loop
-Inv-loop plan erode t w h first₀ second₀ n₀ k₀ first second n k = (2 ≤ k) × (k ≤ length plan) × Midway erode plan w h t first₀ second₀ k n first second
+Inv-loop plan erode outside t w h first₀ second₀ n₀ k₀ first second n k =
+    (2 ≤ k) × (k ≤ length plan) × Midway erode outside plan w h t first₀ second₀ k n first second
 
 abbrev μ-loop : tie.MeasureT-loop
-μ-loop plan erode t w h first₀ second₀ n₀ k₀ first second n k = length plan - k
+μ-loop plan erode outside t w h first₀ second₀ n₀ k₀ first second n k = length plan - k
 
 loop-holds : tie.Need-loop-holds Inv-loop μ-loop
 loop-holds c =
@@ -30,7 +31,8 @@ cast-turn c = search needs
 turn-requires : tie.Need-turn-requires Inv-loop μ-loop
 turn-requires c κs =
     let m = c .before .before .before .before .loop .inv .2 in
-    room-past (c .before .before .before .before .before .before .before .before .pre .1) (m .first) (m .second)
+    let p = c .before .before .before .before .before .before .before .before .pre in
+    (room-past (p .1) (m .first) (m .second), p .3)
 
 add-n : tie.Need-add-n Inv-loop μ-loop
 add-n c =

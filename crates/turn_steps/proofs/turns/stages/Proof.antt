@@ -1,5 +1,6 @@
 -- Each arm of the match is one operation: its passes, in order.
 use borrow.Author.Needs.{needs}
+use Prim.Native.Nat.{zero-le}
 use Rattle.turn_steps.proofs.Alternating.{room-past}
 use Rattle.turn_steps.proofs.Ending.{most, dilation-ends, erosion-ends, opening-ends, closing-ends}
 use Rattle.turn_steps.proofs.turns.stages.Statement.{statement}
@@ -27,7 +28,7 @@ pass-requires-4 : tie.Need-pass-requires-4
 pass-requires-4 c κs =
     let st = c .before .before .before .before .before .before .before .before .before .before .before .before .before .before in
     let p = c .before .before .before .before .before .before .pass3 .ensures in
-    (st .pre .0, room-past (st .pre .1) (p .first) (p .second), most (st .args .plan .now) (st .pre .0) (p .count))
+    (st .pre .0, room-past (st .pre .1) (p .first) (p .second), most (st .args .plan .now) (st .pre .0) (p .count), zero-le)
 
 enum-told-4 : tie.Need-enum-told-4
 enum-told-4 c = search needs
@@ -39,7 +40,7 @@ pass-requires-6 : tie.Need-pass-requires-6
 pass-requires-6 c κs =
     let st = c .before .before .before .before .before .before .before .before .before .before .before .before .before .before in
     let p = c .before .before .before .before .before .before .pass5 .ensures in
-    (st .pre .0, room-past (st .pre .1) (p .first) (p .second), most (st .args .plan .now) (st .pre .0) (p .count))
+    (st .pre .0, room-past (st .pre .1) (p .first) (p .second), most (st .args .plan .now) (st .pre .0) (p .count), zero-le)
 
 same-length : tie.Need-same-length
 same-length c = search needs

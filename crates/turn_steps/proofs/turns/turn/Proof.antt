@@ -23,7 +23,8 @@ returns : tie.Need-returns
 returns c =
     let st = c .before .before .before .before .before .before .before .before in
     from-first (c .before .before .before .before .before .if1 .taken)
-    (c .before .before .stage .ensures .done (room-stage (st .pre) (st .args .first .now) (st .args .second .now) (st .pre .first) (st .pre .second)))
+    (c .before .before .stage .ensures .done
+    (room-stage (st .pre .0) (st .args .first .now) (st .args .second .now) (st .pre .0 .first) (st .pre .0 .second) (st .args .outside) (st .pre .1)))
 
 add-stage-3 : tie.Need-add-stage-3
 add-stage-3 c = search needs
@@ -44,7 +45,8 @@ returns-2 : tie.Need-returns-2
 returns-2 c =
     let st = c .before .before .before .before .before .before .before .before in
     from-second (c .before .before .before .before .before .if1 .left)
-    (c .before .before .stage2 .ensures .done (room-stage (st .pre) (st .args .second .now) (st .args .first .now) (st .pre .second) (st .pre .first)))
+    (c .before .before .stage2 .ensures .done
+    (room-stage (st .pre .0) (st .args .second .now) (st .args .first .now) (st .pre .0 .second) (st .pre .0 .first) (st .args .outside) (st .pre .1)))
 
 pub turn-spec : {M : Type 1} → statement M
 turn-spec =
