@@ -1,4 +1,4 @@
-/* Dilation and erosion by leptonica on images of one bit a cell; cells outside are off. */
+/* Dilation and erosion by leptonica on images of one bit a cell. */
 #include <leptonica/allheaders.h>
 
 /* The version; it is kept for the whole run. */
@@ -38,12 +38,16 @@ SEL *bench_leptonica_sel(const unsigned char *kernel, int kw, int kh)
     return sel;
 }
 
-void bench_leptonica(PIX *from, PIX *to, SEL *sel, int erode)
+/* Cells outside the image have the value that is given; for dilation, where leptonica knows
+ * no other, they are off. The condition is a global variable, so it is set each time. */
+void bench_leptonica(PIX *from, PIX *to, SEL *sel, int erode, int outside)
 {
-    if (erode)
+    if (erode) {
+        resetMorphBoundaryCondition(outside ? SYMMETRIC_MORPH_BC : ASYMMETRIC_MORPH_BC);
         pixErode(to, from, sel);
-    else
+    } else {
         pixDilate(to, from, sel);
+    }
 }
 
 void bench_leptonica_free(PIX *image, SEL *sel)

@@ -3,7 +3,7 @@
 //! frames; the library beside OpenCV, leptonica, Rust and plain copies.
 
 use goals::Rows;
-use musqerpi_tests::frames::grid_of;
+use musqerpi_tests::frames::{grid_of, Around};
 use std::fmt;
 
 mod arriving;
@@ -49,6 +49,20 @@ impl Size {
 
     fn grid(self) -> usize {
         grid_of(self.w, self.h)
+    }
+
+    /// The place of the frame's first cell in a grid of this kind.
+    fn first(self, around: Around) -> usize {
+        let before = -around.start() as usize;
+        before * self.width() + before
+    }
+}
+
+/// The end of a row's name, which tells the kind of grid.
+fn among(around: Around) -> &'static str {
+    match around {
+        Around::Free => "",
+        Around::Occupied => ", among 1s",
     }
 }
 

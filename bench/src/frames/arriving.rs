@@ -163,7 +163,7 @@ fn moves_and_looks<'a>(mut fall: Fall) -> Engine<'a> {
         }
         frames(read, live, kept)
     });
-    engine.copying()
+    engine.uncompared()
 }
 
 /// The row of one plan.

@@ -1,7 +1,12 @@
 //! The frame calls of another build of the library, and safe wrappers on slices. The
 //! build script gives its archive and names its symbols anew.
 
+use musqerpi_tests::frames::{Around, Mode};
 use musqerpi_tests::operations::Op;
+
+/// Whether the build has the second kind of grid. One that hasn't takes no kind in putting
+/// and in the single stage.
+pub const KNOWS_SECOND: bool = cfg!(not(feature = "before_first_kind"));
 
 mod boundary {
     pub type Operation = unsafe extern "C" fn(
@@ -49,6 +54,7 @@ mod boundary {
             h: usize,
             frame: *const u8,
             frame_n: usize,
+            #[cfg(not(feature = "before_first_kind"))] around: u8,
             image: *mut u8,
             image_n: usize,
         ) -> i64;
@@ -58,6 +64,7 @@ mod boundary {
         pub fn before_musq_stage(
             word: u32,
             erode: u8,
+            #[cfg(not(feature = "before_first_kind"))] around: u8,
             w: usize,
             h: usize,
             from: *const u8,
@@ -82,26 +89,42 @@ mod boundary {
 // In all: a slice's pointer is never null, even of an empty slice, and holds for its
 // length; the borrow rules keep what is written off the rest.
 
-pub fn put(w: usize, h: usize, frame: &[u8], image: &mut [u8]) -> i64 {
-    let (cells, n) = (frame.as_ptr(), frame.len());
-    // SAFETY: pointers and lengths are those of live slices, see above.
-    unsafe { boundary::before_musq_put(w, h, cells, n, image.as_mut_ptr(), image.len()) }
+fn assert_known(around: Around) {
+    let known = KNOWS_SECOND || around == Around::Free;
+    assert!(known, "this build has the first kind of grid alone");
 }
 
-pub fn stage(word: u32, erode: bool, size: (usize, usize), from: &[u8], to: &mut [u8]) -> i64 {
-    let ((w, h), cells, n) = (size, from.as_ptr(), from.len());
+pub fn put(w: usize, h: usize, frame: &[u8], around: Around, image: &mut [u8]) -> i64 {
+    assert_known(around);
+    let (cells, n) = (frame.as_ptr(), frame.len());
+    let (made, made_n) = (image.as_mut_ptr(), image.len());
     // SAFETY: pointers and lengths are those of live slices, see above.
+    #[cfg(not(feature = "before_first_kind"))]
     unsafe {
-        boundary::before_musq_stage(
-            word,
-            u8::from(erode),
-            w,
-            h,
-            cells,
-            n,
-            to.as_mut_ptr(),
-            to.len(),
-        )
+        boundary::before_musq_put(w, h, cells, n, around.cell(), made, made_n)
+    }
+    // SAFETY: likewise.
+    #[cfg(feature = "before_first_kind")]
+    unsafe {
+        boundary::before_musq_put(w, h, cells, n, made, made_n)
+    }
+}
+
+pub fn stage(word: u32, mode: Mode, size: (usize, usize), from: &[u8], to: &mut [u8]) -> i64 {
+    assert_known(mode.around);
+    let ((w, h), erode) = (size, u8::from(mode.erode));
+    let (cells, n) = (from.as_ptr(), from.len());
+    let (made, made_n) = (to.as_mut_ptr(), to.len());
+    // SAFETY: pointers and lengths are those of live slices, see above.
+    #[cfg(not(feature = "before_first_kind"))]
+    unsafe {
+        let around = mode.around.cell();
+        boundary::before_musq_stage(word, erode, around, w, h, cells, n, made, made_n)
+    }
+    // SAFETY: likewise.
+    #[cfg(feature = "before_first_kind")]
+    unsafe {
+        boundary::before_musq_stage(word, erode, w, h, cells, n, made, made_n)
     }
 }
 

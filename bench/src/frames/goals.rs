@@ -1,18 +1,20 @@
 //! The goals of frames, each with the worst of its rows in this run. A goal whose engine
 //! wasn't run is left out.
 
+use super::operations::Whole;
 use super::small::{LEAST, MIDDLE};
 use super::table::Row;
 use super::Size;
 use crate::print_goal;
+use musqerpi_tests::operations::Op;
 
-/// All rows of a run, by table; those of operations with the stages of their plans.
+/// All rows of a run, by table.
 pub struct Rows {
     pub puts: Vec<Row>,
     pub loads: Vec<Row>,
     pub shares: Vec<Row>,
     pub stages: Vec<Row>,
-    pub operations: Vec<(usize, Row)>,
+    pub operations: Vec<Whole>,
     pub thin_arrivals: Vec<Row>,
     pub thick_arrivals: Vec<Row>,
     pub small_stages: Vec<Row>,
@@ -33,9 +35,10 @@ fn print_worst<'a>(
     print_goal(goal, found, worst <= limit);
 }
 
-/// The library's time over this engine's is at most the limit at each of the rows.
+/// The library's time over this engine's is at most the limit at each of the rows. The limit
+/// is printed with all its decimals, and one at least.
 fn at_most<'a>(what: &str, limit: f64, engine: &str, rows: impl Iterator<Item = &'a Row>) {
-    let goal = format!("{what} at most {limit:.1} of {engine}");
+    let goal = format!("{what} at most {limit:?} of {engine}");
     let ratios = rows.filter_map(|row| Some((row.over(engine)?, row)));
     print_worst(&goal, limit, "", ratios);
 }
@@ -49,11 +52,14 @@ fn of(rows: &[Row], size: Size) -> impl Iterator<Item = &Row> {
 pub fn print(rows: &Rows) {
     println!("goals");
     let operations = rows.operations.iter();
-    let all = operations.clone().map(|(_, row)| row);
+    let all = operations.clone().map(|one| &one.row);
     at_most("operations", 0.5, "OpenCV stages", all);
-    let long = operations.filter(|(stages, _)| *stages >= 4);
-    let long = long.map(|(_, row)| row);
+    let long = operations.clone().filter(|one| one.stages >= 4);
+    let long = long.map(|one| &one.row);
     at_most("from 4 stages", 1.0, "lept. stages", long);
+    let erosion = operations.filter(|one| one.op == Op::Erode);
+    let erosion = erosion.map(|one| &one.row);
+    at_most("erosion", 1.15, "before", erosion);
     at_most("stages", 0.9, "OpenCV", rows.stages.iter());
     let small = rows.small_operations.iter();
     at_most("small operations", 1.0, "before", small);

@@ -1,10 +1,12 @@
 //! Whole operations: a frame by plans of 1, 4 and 8 stages. The others put the frame into
-//! a grid, go through the stages or the whole shape, and cut the last grid to the frame.
+//! a grid of the operation's kind, go through the stages or the whole shape, and cut the
+//! last grid to the frame.
 
 use super::builds::{Build, BUILDS};
 use super::kernel::Kernel;
 use super::table::{asked, Engine, Lent, Pace, Row, Table};
 use super::{pictures, rust, Size, GREATEST};
+use musqerpi_tests::frames::Mode;
 use musqerpi_tests::lists::list_of_rows;
 use musqerpi_tests::operations::makers::planned;
 use musqerpi_tests::operations::{plan_list, Case, Op, OPS};
@@ -62,8 +64,17 @@ fn size_of(case: &Case) -> Size {
     Size { w, h }
 }
 
-/// Cell (x, y) of the frame is the grid's, moved by the operation's offset, and free
-/// outside the grid. The offset is less than W either way.
+/// The passes of the operation, all in its kind of grid.
+fn modes(op: Op) -> impl Iterator<Item = Mode> {
+    let mode = move |&erode| Mode {
+        erode,
+        around: op.around(),
+    };
+    op.passes().iter().map(mode)
+}
+
+/// Cell (x, y) of the frame is the grid's, moved by the operation's offset, and outside the
+/// grid what its kind says. The offset is less than W either way.
 fn cut(case: &Case, grid: &[u8], cells: &mut [u8]) {
     let (dx, dy) = case.offset();
     let (dx, dy) = match case.op {
@@ -71,12 +82,15 @@ fn cut(case: &Case, grid: &[u8], cells: &mut [u8]) {
         Op::Erode => (dx, dy),
         Op::Open | Op::Close => (0, 0),
     };
+    let (outside, first) = (case.op.around().cell(), case.op.around().start());
+    // From the frame's column and row to the grid's.
+    let (dx, dy) = (dx - first, dy - first);
     let (w, width) = (case.w, size_of(case).width());
     let left = (-dx).max(0) as usize;
     let right = w.min((width as i64 - dx) as usize);
     for (y, row) in cells.chunks_mut(w).enumerate() {
         let from = y as i64 + dy;
-        row.fill(0);
+        row.fill(outside);
         if (0..case.h as i64 + 15).contains(&from) {
             let start = (from * width as i64 + left as i64 + dx) as usize;
             row[left..right].copy_from_slice(&grid[start..start + right - left]);
@@ -89,16 +103,16 @@ fn by_grids<'a, K>(
     name: &'static str,
     case: &'a Case,
     kernels: &'a [K],
-    apply: impl Fn(&K, bool, &[u8], &mut [u8]) + 'a,
+    apply: impl Fn(&K, Mode, &[u8], &mut [u8]) + 'a,
 ) -> Engine<'a> {
     let size = size_of(case);
     let (mut from, mut to) = (vec![7; size.grid()], vec![7; size.grid()]);
     let mut cells = vec![7; size.cells()];
     Engine::new(name, move |read| {
-        rust::put(size, &case.frame, &mut from);
-        for &erode in case.op.passes() {
+        rust::put(size, &case.frame, case.op.around(), &mut from);
+        for mode in modes(case.op) {
             for kernel in kernels {
-                apply(kernel, erode, &from, &mut to);
+                apply(kernel, mode, &from, &mut to);
                 std::mem::swap(&mut from, &mut to);
             }
         }
@@ -108,13 +122,14 @@ fn by_grids<'a, K>(
 }
 
 /// The operation and the call that hands back its part. The second image stands right
-/// after the first.
+/// after the first. A build that hasn't the operation's kind of grid isn't compared: it has
+/// another result.
 fn of_build<'a>(build: &'static Build, case: &'a Case) -> Engine<'a> {
     let (pair, grid) = (size_of(case).pair(), size_of(case).grid());
     let next = grid.next_multiple_of(64);
     let mut memory = Lent::apart(&case.frame, next + grid);
     let run = case.op.stages_run(case.stages()) as i64;
-    Engine::new(build.name, move |read| {
+    let engine = Engine::new(build.name, move |read| {
         let (frame, images) = memory.parts();
         let (first, second) = images.split_at_mut(next);
         let first = &mut first[..grid];
@@ -124,7 +139,11 @@ fn of_build<'a>(build: &'static Build, case: &'a Case) -> Engine<'a> {
         let length = (build.part)(stages, pair, first, second, &mut image);
         let from = if image == 1 { first } else { second };
         asked(read, &from[..length as usize])
-    })
+    });
+    match build.knows(case.op.around()) {
+        true => engine,
+        false => engine.uncompared(),
+    }
 }
 
 /// As many copies of the grid as stages are run, and one at least.
@@ -139,7 +158,7 @@ fn of_copies(case: &Case) -> Engine<'_> {
         }
         asked(read, black_box(&from))
     });
-    engine.copying()
+    engine.uncompared()
 }
 
 /// Stages of one bit a cell; putting and cutting are left out of the time.
@@ -148,15 +167,15 @@ fn of_leptonica<'a>(name: &'static str, case: &'a Case, kernels: &[Kernel]) -> E
     use super::other::leptonica::{apply, Image, Sel};
     let (size, width) = (size_of(case), size_of(case).width());
     let mut grid = vec![0; size.grid()];
-    rust::put(size, &case.frame, &mut grid);
+    rust::put(size, &case.frame, case.op.around(), &mut grid);
     let start = Image::of(&grid, width);
     let (mut from, mut to) = (Image::of(&grid, width), Image::of(&grid, width));
     let sels: Vec<Sel> = kernels.iter().map(Sel::of).collect();
     Engine::new(name, move |read| {
-        for (pass, &erode) in case.op.passes().iter().enumerate() {
+        for (pass, mode) in modes(case.op).enumerate() {
             for (k, sel) in sels.iter().enumerate() {
                 let source = if pass + k == 0 { &start } else { &from };
-                apply(sel, erode, source, &mut to);
+                apply(sel, mode, source, &mut to);
                 std::mem::swap(&mut from, &mut to);
             }
         }
@@ -198,8 +217,8 @@ fn engines<'a>(case: &'a Case, forms: &'a Forms) -> Vec<Engine<'a>> {
         ("OpenCV stages", &forms.stages[..]),
         ("OpenCV whole", &forms.whole),
     ] {
-        let apply = move |kernel: &Kernel, erode, from: &[u8], to: &mut [u8]| {
-            super::other::opencv::apply(kernel, erode, width, from, to)
+        let apply = move |kernel: &Kernel, mode, from: &[u8], to: &mut [u8]| {
+            super::other::opencv::apply(kernel, mode, width, from, to)
         };
         engines.push(by_grids(name, case, kernels, apply));
     }
@@ -210,20 +229,27 @@ fn engines<'a>(case: &'a Case, forms: &'a Forms) -> Vec<Engine<'a>> {
     ] {
         engines.push(of_leptonica(name, case, kernels));
     }
-    let bytes = move |&mask: &u32, erode, from: &[u8], to: &mut [u8]| {
-        rust::bytes(mask, erode, width, from, to)
+    let bytes = move |&mask: &u32, mode, from: &[u8], to: &mut [u8]| {
+        rust::bytes(mask, mode, width, from, to)
     };
     engines.push(by_grids("bytes", case, &forms.masks, bytes));
-    let direct = move |kernel: &Kernel, erode, from: &[u8], to: &mut [u8]| {
-        rust::direct(kernel, erode, width, from, to)
+    let direct = move |kernel: &Kernel, mode, from: &[u8], to: &mut [u8]| {
+        rust::direct(kernel, mode, width, from, to)
     };
     engines.push(by_grids("direct", case, &forms.whole, direct));
     engines.push(of_copies(case));
     engines
 }
 
-/// The rows of all four operations by these plans, each with the plan's stages.
-pub fn rows(table: &mut Table, plans: &[Plan]) -> Vec<(usize, Row)> {
+/// A row, with its operation and the stages of its plan.
+pub struct Whole {
+    pub op: Op,
+    pub stages: usize,
+    pub row: Row,
+}
+
+/// The rows of all four operations by these plans.
+pub fn rows(table: &mut Table, plans: &[Plan]) -> Vec<Whole> {
     let (size, frame) = (table.size, pictures::frame(table.size));
     let mut rows = Vec::new();
     for op in OPS {
@@ -232,12 +258,13 @@ pub fn rows(table: &mut Table, plans: &[Plan]) -> Vec<(usize, Row)> {
             let case = Case::new(op, plan, size.pair(), &frame, images);
             let forms = Forms::of(plan);
             let row = table.row(format!("{op:?}, {name}"), engines(&case, &forms));
-            rows.push((case.stages(), row));
+            let stages = case.stages();
+            rows.push(Whole { op, stages, row });
         }
     }
     rows
 }
 
-pub fn run() -> Vec<(usize, Row)> {
+pub fn run() -> Vec<Whole> {
     rows(&mut Table::new("operation", GREATEST, PACE), &plans())
 }

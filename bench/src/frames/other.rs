@@ -3,6 +3,7 @@
 #[cfg(feature = "opencv")]
 pub mod opencv {
     use crate::frames::kernel::Kernel;
+    use musqerpi_tests::frames::Mode;
     use std::ffi::{c_char, c_int, CStr};
 
     extern "C" {
@@ -16,6 +17,7 @@ pub mod opencv {
             kw: c_int,
             kh: c_int,
             erode: c_int,
+            outside: c_int,
         );
     }
 
@@ -26,22 +28,24 @@ pub mod opencv {
         version.to_string_lossy().into_owned()
     }
 
-    /// The grid taken through the kernel, by dilation or erosion.
-    pub fn apply(kernel: &Kernel, erode: bool, width: usize, from: &[u8], to: &mut [u8]) {
+    /// The grid taken through the kernel.
+    pub fn apply(kernel: &Kernel, mode: Mode, width: usize, from: &[u8], to: &mut [u8]) {
         let height = from.len() / width;
         assert!(to.len() == from.len() && width * height == from.len());
         assert!(kernel.block.len() <= 256, "the other side has 256 bytes");
         let (w, h) = (width as c_int, height as c_int);
         let (kw, kh) = (kernel.w as c_int, kernel.h as c_int);
-        let (cells, erode) = (kernel.block.as_ptr(), c_int::from(erode));
+        let (erode, outside) = (c_int::from(mode.erode), c_int::from(mode.around.cell()));
+        let (from, to, cells) = (from.as_ptr(), to.as_mut_ptr(), kernel.block.as_ptr());
         // SAFETY: both grids have w × h bytes, and the kernel kw × kh, see above.
-        unsafe { bench_opencv(from.as_ptr(), to.as_mut_ptr(), w, h, cells, kw, kh, erode) }
+        unsafe { bench_opencv(from, to, w, h, cells, kw, kh, erode, outside) }
     }
 }
 
 #[cfg(feature = "leptonica")]
 pub mod leptonica {
     use crate::frames::kernel::Kernel;
+    use musqerpi_tests::frames::{Around, Mode};
     use std::ffi::{c_char, c_int, c_void, CStr};
 
     extern "C" {
@@ -49,7 +53,13 @@ pub mod leptonica {
         fn bench_leptonica_image(cells: *const u8, w: c_int, h: c_int) -> *mut c_void;
         fn bench_leptonica_cells(image: *mut c_void, cells: *mut u8, w: c_int, h: c_int);
         fn bench_leptonica_sel(kernel: *const u8, kw: c_int, kh: c_int) -> *mut c_void;
-        fn bench_leptonica(from: *mut c_void, to: *mut c_void, sel: *mut c_void, erode: c_int);
+        fn bench_leptonica(
+            from: *mut c_void,
+            to: *mut c_void,
+            sel: *mut c_void,
+            erode: c_int,
+            outside: c_int,
+        );
         fn bench_leptonica_free(image: *mut c_void, sel: *mut c_void);
     }
 
@@ -94,9 +104,16 @@ pub mod leptonica {
         }
     }
 
-    pub fn apply(sel: &Sel, erode: bool, from: &Image, to: &mut Image) {
+    /// Whether leptonica has this. Cells outside are always free for dilation.
+    pub fn has(mode: Mode) -> bool {
+        mode.erode || mode.around == Around::Free
+    }
+
+    pub fn apply(sel: &Sel, mode: Mode, from: &Image, to: &mut Image) {
+        assert!(has(mode), "leptonica hasn't {mode:?}");
+        let (erode, outside) = (c_int::from(mode.erode), c_int::from(mode.around.cell()));
         // SAFETY: all three are live, and the two images are of one size.
-        unsafe { bench_leptonica(from.0, to.0, sel.0, c_int::from(erode)) }
+        unsafe { bench_leptonica(from.0, to.0, sel.0, erode, outside) }
     }
 
     impl Drop for Image {

@@ -1,17 +1,16 @@
 //! What is worked on: grids for single stages, and frames.
 
-use super::Size;
+use super::{rust, Size};
+use musqerpi_tests::frames::Mode;
 use musqerpi_tests::random::Random;
 
 /// A grid with a random frame in it: one cell in four occupied, for erosion all but one.
-pub fn grid(size: Size, erode: bool) -> Vec<u8> {
+pub fn grid(size: Size, mode: Mode) -> Vec<u8> {
     let mut random = Random::new(2026);
-    let mut grid = vec![0; size.grid()];
-    for row in grid.chunks_mut(size.width()).take(size.h) {
-        for cell in &mut row[..size.w] {
-            *cell = u8::from(random.once_in(4) != erode);
-        }
-    }
+    let cell = |_| u8::from(random.once_in(4) != mode.erode);
+    let frame: Vec<u8> = (0..size.cells()).map(cell).collect();
+    let mut grid = vec![7; size.grid()];
+    rust::put(size, &frame, mode.around, &mut grid);
     grid
 }
 

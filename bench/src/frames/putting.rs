@@ -1,9 +1,10 @@
-//! Putting a frame into the grid of an image, which stands right after the frame or far
-//! from it. All engines of a row work on the same bytes.
+//! Putting a frame into the grid of an image, of either kind. The image stands right after
+//! the frame or far from it. All engines of a row work on the same bytes.
 
 use super::builds::BUILDS;
 use super::table::{asked, Engine, Lent, Pace, Row, Table, PAGE};
-use super::{pictures, rust, GREATEST};
+use super::{among, pictures, rust, GREATEST};
+use musqerpi_tests::frames::{Around, AROUND};
 use std::cell::RefCell;
 use std::hint::black_box;
 
@@ -38,27 +39,32 @@ fn on_both<'a>(
     })
 }
 
-fn engines(memory: &RefCell<Lent>) -> Vec<Engine<'_>> {
+fn engines(memory: &RefCell<Lent>, around: Around) -> Vec<Engine<'_>> {
     let (w, h) = GREATEST.pair();
     let mut engines = Vec::new();
-    for build in BUILDS {
+    for build in BUILDS.iter().filter(|build| build.knows(around)) {
         engines.push(on_both(build.name, memory, move |frame, image| {
-            assert_eq!((build.put)(w, h, frame, image), 0, "putting");
+            assert_eq!((build.put)(w, h, frame, around, image), 0, "putting");
         }));
     }
-    let fill_and_copy = |frame: &[u8], image: &mut [u8]| rust::put(GREATEST, frame, image);
-    engines.push(on_both("fill and copy", memory, fill_and_copy));
+    engines.push(on_both("fill and copy", memory, move |frame, image| {
+        rust::put(GREATEST, frame, around, image)
+    }));
     let copy = |frame: &[u8], image: &mut [u8]| image[..frame.len()].copy_from_slice(frame);
-    engines.push(on_both("copy", memory, copy).copying());
+    engines.push(on_both("copy", memory, copy).uncompared());
     engines
 }
 
 pub fn run() -> Vec<Row> {
     let mut table = Table::new("putting", GREATEST, PACE);
     let frame = pictures::frame(GREATEST);
-    let row = |(name, between): (&str, usize)| {
-        let memory = RefCell::new(Lent::new(&frame, between, GREATEST.grid()));
-        table.row(name.to_string(), engines(&memory))
-    };
-    PLACES.into_iter().map(row).collect()
+    let mut rows = Vec::new();
+    for around in AROUND {
+        for (name, between) in PLACES {
+            let memory = RefCell::new(Lent::new(&frame, between, GREATEST.grid()));
+            let name = format!("{name}{}", among(around));
+            rows.push(table.row(name, engines(&memory, around)));
+        }
+    }
+    rows
 }

@@ -3,17 +3,19 @@
 
 use super::kernel::Kernel;
 use super::Size;
+use musqerpi_tests::frames::{Around, Mode};
 use std::hint::black_box;
 
 /// Cells that are gone through by one bit of the mask after the other, to stay in cache.
 const CHUNK: usize = 4096;
 
-/// Fills the grid with 0, and then copies the frame row by row. Like the library it isn't
-/// told the size when it is compiled.
-pub fn put(size: Size, frame: &[u8], grid: &mut [u8]) {
+/// Fills the grid with 0, or with 1 in the second kind, and then copies the frame row by
+/// row. Like the library it isn't told size and kind when it is compiled.
+pub fn put(size: Size, frame: &[u8], around: Around, grid: &mut [u8]) {
     let (w, width) = black_box((size.w, size.width()));
-    grid.fill(0);
-    for (to, from) in grid.chunks_mut(width).zip(frame.chunks(w)) {
+    let (first, cell) = black_box((size.first(around), around.cell()));
+    grid.fill(cell);
+    for (to, from) in grid[first..].chunks_mut(width).zip(frame.chunks(w)) {
         to[..w].copy_from_slice(from);
     }
 }
@@ -31,15 +33,31 @@ pub fn filter(frame: &[u8]) -> i64 {
 
 /// For each cell of the mask one flat loop over the grid's bytes, in chunks; then the two
 /// columns that took cells of a neighbouring row are done again.
-pub fn bytes(mask: u32, erode: bool, width: usize, from: &[u8], to: &mut [u8]) {
+pub fn bytes(mask: u32, mode: Mode, width: usize, from: &[u8], to: &mut [u8]) {
+    match mode.around {
+        Around::Free => bytes_among::<0>(mask, mode.erode, width, from, to),
+        Around::Occupied => bytes_among::<1>(mask, mode.erode, width, from, to),
+    }
+}
+
+/// `bytes` with cells outside the grid of this value. It is told when this is compiled:
+/// given as an argument it takes some hundredths of the time, in the two columns.
+fn bytes_among<const OUTSIDE: u8>(
+    mask: u32,
+    erode: bool,
+    width: usize,
+    from: &[u8],
+    to: &mut [u8],
+) {
     for (chunk, cells) in to.chunks_mut(CHUNK).enumerate() {
         let start = chunk * CHUNK;
         for bit in (0..9).filter(|bit| mask >> bit & 1 == 1) {
             let (far, first) = (bit / 3 * width + bit % 3, mask & ((1 << bit) - 1) == 0);
+            let ahead = || from.get(start + far..).unwrap_or(&[]);
             match (erode, first) {
-                (true, true) => copy_ahead(cells, from.get(start + far..).unwrap_or(&[])),
-                (true, false) => least_ahead(cells, from.get(start + far..).unwrap_or(&[])),
-                (false, _) => behind(cells, from, start, far, first),
+                (true, true) => copy_ahead(cells, ahead(), OUTSIDE),
+                (true, false) => least_ahead(cells, ahead(), OUTSIDE),
+                (false, _) => behind::<OUTSIDE>(cells, from, start, far, first),
             }
         }
     }
@@ -50,47 +68,57 @@ pub fn bytes(mask: u32, erode: bool, width: usize, from: &[u8], to: &mut [u8]) {
     };
     for column in columns {
         for place in (column..to.len()).step_by(width) {
-            to[place] = cell(mask, erode, width, from, place);
+            to[place] = cell::<OUTSIDE>(mask, erode, width, from, place);
         }
     }
 }
 
-/// The least of each cell and the one that stands so far ahead; past the end are 0s.
-fn least_ahead(cells: &mut [u8], ahead: &[u8]) {
+/// The least of each cell and the one that stands so far ahead; past the end are cells
+/// outside.
+fn least_ahead(cells: &mut [u8], ahead: &[u8], outside: u8) {
     let there = cells.len().min(ahead.len());
     let (within, past) = cells.split_at_mut(there);
     for (cell, &other) in within.iter_mut().zip(ahead) {
         *cell = (*cell).min(other);
     }
-    past.fill(0);
+    if outside == 0 {
+        past.fill(0);
+    }
 }
 
-/// The cells that stand so far ahead; past the end are 0s.
-fn copy_ahead(cells: &mut [u8], ahead: &[u8]) {
+/// The cells that stand so far ahead; past the end are cells outside.
+fn copy_ahead(cells: &mut [u8], ahead: &[u8], outside: u8) {
     let there = cells.len().min(ahead.len());
     let (within, past) = cells.split_at_mut(there);
     within.copy_from_slice(&ahead[..there]);
-    past.fill(0);
+    past.fill(outside);
 }
 
 /// The cells that stand so far behind, or the greatest of these and the cells there
-/// are, the first of which has this place; before the start are 0s.
-fn behind(cells: &mut [u8], from: &[u8], start: usize, far: usize, first: bool) {
+/// are, the first of which has this place; before the start are cells outside.
+fn behind<const OUTSIDE: u8>(cells: &mut [u8], from: &[u8], start: usize, far: usize, first: bool) {
     let before = far.saturating_sub(start).min(cells.len());
     let others = &from[(start + before).saturating_sub(far)..];
     let (out, within) = cells.split_at_mut(before);
-    if first {
-        out.fill(0);
-        within.copy_from_slice(&others[..within.len()]);
-        return;
+    if first || OUTSIDE == 1 {
+        out.fill(OUTSIDE);
     }
-    for (cell, &other) in within.iter_mut().zip(others) {
+    if first {
+        within.copy_from_slice(&others[..within.len()]);
+    } else {
+        greatest(within, others);
+    }
+}
+
+/// The greatest of each cell and another.
+fn greatest(cells: &mut [u8], others: &[u8]) {
+    for (cell, &other) in cells.iter_mut().zip(others) {
         *cell = (*cell).max(other);
     }
 }
 
 /// One cell of the result, by looking at all cells of the mask.
-fn cell(mask: u32, erode: bool, width: usize, from: &[u8], place: usize) -> u8 {
+fn cell<const OUTSIDE: u8>(mask: u32, erode: bool, width: usize, from: &[u8], place: usize) -> u8 {
     let (x, y, height) = (place % width, place / width, from.len() / width);
     let mut value = u8::from(erode);
     for bit in (0..9).filter(|bit| mask >> bit & 1 == 1) {
@@ -100,36 +128,41 @@ fn cell(mask: u32, erode: bool, width: usize, from: &[u8], place: usize) -> u8 {
             value = value.min(if inside {
                 from[place + j * width + i]
             } else {
-                0
+                OUTSIDE
             });
-        } else if i <= x && j <= y {
-            value = value.max(from[place - j * width - i]);
+        } else {
+            let inside = i <= x && j <= y;
+            value = value.max(if inside {
+                from[place - j * width - i]
+            } else {
+                OUTSIDE
+            });
         }
     }
     value
 }
 
 /// The kernel's points one after the other, each row by row: the greatest or least.
-pub fn direct(kernel: &Kernel, erode: bool, width: usize, from: &[u8], to: &mut [u8]) {
-    let height = to.len() / width;
-    to.fill(u8::from(erode));
+pub fn direct(kernel: &Kernel, mode: Mode, width: usize, from: &[u8], to: &mut [u8]) {
+    let (height, outside) = (to.len() / width, mode.around.cell());
+    to.fill(u8::from(mode.erode));
     for &(i, j) in &kernel.points {
-        if erode {
-            for y in 0..height {
-                let row = &mut to[y * width..(y + 1) * width];
-                if y + j >= height {
-                    row.fill(0);
-                    continue;
-                }
-                let others = &from[(y + j) * width + i..(y + j + 1) * width];
-                least_ahead(row, others);
+        if mode.erode {
+            for (y, row) in to.chunks_mut(width).enumerate() {
+                let ahead = match y + j < height {
+                    true => &from[(y + j) * width + i..(y + j + 1) * width],
+                    false => &[],
+                };
+                least_ahead(row, ahead, outside);
             }
         } else {
+            if outside == 1 {
+                to[..j * width].fill(1);
+                to.chunks_mut(width).for_each(|row| row[..i].fill(1));
+            }
             for y in j..height {
                 let row = &mut to[y * width + i..(y + 1) * width];
-                for (cell, &other) in row.iter_mut().zip(&from[(y - j) * width..]) {
-                    *cell = (*cell).max(other);
-                }
+                greatest(row, &from[(y - j) * width..]);
             }
         }
     }

@@ -5,6 +5,7 @@ use super::operations::{self, Plan};
 use super::stages;
 use super::table::{Pace, Row, Table};
 use super::Size;
+use musqerpi_tests::frames::Around;
 use musqerpi_tests::operations::plan_list;
 
 pub const LEAST: Size = Size { w: 8, h: 8 };
@@ -38,12 +39,12 @@ pub fn run() -> (Vec<Row>, Vec<Row>) {
     let (mut singles, mut wholes) = (Vec::new(), Vec::new());
     for size in [LEAST, MIDDLE] {
         let mut table = Table::new("stage", size, PACE).only(TIMED);
-        singles.extend(stages::rows(&mut table, &MASKS));
+        singles.extend(stages::rows(&mut table, &MASKS, Around::Free));
     }
     for size in [LEAST, MIDDLE] {
         let mut table = Table::new("operation", size, PACE).only(TIMED);
         let rows = operations::rows(&mut table, &plans());
-        wholes.extend(rows.into_iter().map(|(_, row)| row));
+        wholes.extend(rows.into_iter().map(|one| one.row));
     }
     (singles, wholes)
 }

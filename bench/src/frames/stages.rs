@@ -1,10 +1,11 @@
-//! Single stages: one grid through one mask, by dilation and by erosion.
+//! Single stages: one grid through one mask, by dilation and by erosion, in either kind of
+//! grid.
 
 use super::builds::BUILDS;
 use super::kernel::Kernel;
 use super::table::{asked, Engine, Lent, Pace, Row, Table};
-use super::{pictures, rust, Size, GREATEST};
-use musqerpi_tests::frames::stage_word;
+use super::{among, pictures, rust, Size, GREATEST};
+use musqerpi_tests::frames::{stage_word, Around, Mode};
 use std::hint::black_box;
 
 /// Masks of 2, 5, 8 and 9 cells.
@@ -14,6 +15,9 @@ const MASKS: [u32; 14] = [
     255, 495, 507, 510, // eight: all but one
     511,
 ];
+
+/// Of 2, 5 and 9 cells, for the second kind of grid.
+const MASKS_AMONG_1S: [u32; 3] = [3, 186, 511];
 
 const PACE: Pace = Pace {
     rounds: 101,
@@ -25,19 +29,19 @@ const PACE: Pace = Pace {
 struct Case {
     size: Size,
     mask: u32,
-    erode: bool,
+    mode: Mode,
     kernel: Kernel,
     from: Vec<u8>,
 }
 
 impl Case {
-    fn new(size: Size, mask: u32, erode: bool) -> Case {
+    fn new(size: Size, mask: u32, mode: Mode) -> Case {
         Case {
             size,
             mask,
-            erode,
+            mode,
             kernel: Kernel::of_mask(mask),
-            from: pictures::grid(size, erode),
+            from: pictures::grid(size, mode),
         }
     }
 }
@@ -57,29 +61,31 @@ fn into_grid<'a>(
 }
 
 fn engines(case: &Case) -> Vec<Engine<'_>> {
-    let (mask, erode, kernel) = (case.mask, case.erode, &case.kernel);
+    let (mask, mode, kernel) = (case.mask, case.mode, &case.kernel);
     let (word, size, width) = (stage_word(mask), case.size.pair(), case.size.width());
     let mut engines = Vec::new();
-    for build in BUILDS {
+    for build in BUILDS.iter().filter(|build| build.knows(mode.around)) {
         engines.push(into_grid(build.name, case, move |from, to| {
-            let answer = (build.stage)(word, erode, size, from, to);
+            let answer = (build.stage)(word, mode, size, from, to);
             assert_eq!(answer, 0, "mask {mask}");
         }));
     }
     #[cfg(feature = "opencv")]
     engines.push(into_grid("OpenCV", case, move |from, to| {
-        super::other::opencv::apply(kernel, erode, width, from, to)
+        super::other::opencv::apply(kernel, mode, width, from, to)
     }));
     #[cfg(feature = "leptonica")]
-    engines.push(leptonica(case));
+    if super::other::leptonica::has(mode) {
+        engines.push(leptonica(case));
+    }
     engines.push(into_grid("bytes", case, move |from, to| {
-        rust::bytes(mask, erode, width, from, to)
+        rust::bytes(mask, mode, width, from, to)
     }));
     engines.push(into_grid("direct", case, move |from, to| {
-        rust::direct(kernel, erode, width, from, to)
+        rust::direct(kernel, mode, width, from, to)
     }));
     let copy = into_grid("copy", case, |from, to| to.copy_from_slice(from));
-    engines.push(copy.copying());
+    engines.push(copy.uncompared());
     engines
 }
 
@@ -91,7 +97,7 @@ fn leptonica(case: &Case) -> Engine<'_> {
     let (from, sel) = (Image::of(&case.from, width), Sel::of(&case.kernel));
     let mut to = Image::of(&vec![0; grid], width);
     Engine::new("leptonica", move |read| {
-        apply(&sel, case.erode, &from, &mut to);
+        apply(&sel, case.mode, &from, &mut to);
         match read {
             true => to.cells(grid, width),
             false => Vec::new(),
@@ -99,13 +105,14 @@ fn leptonica(case: &Case) -> Engine<'_> {
     })
 }
 
-/// The rows of these masks, of both kinds.
-pub fn rows(table: &mut Table, masks: &[u32]) -> Vec<Row> {
+/// The rows of these masks in one kind of grid, by dilation and by erosion.
+pub fn rows(table: &mut Table, masks: &[u32], around: Around) -> Vec<Row> {
     let mut rows = Vec::new();
-    for (erode, kind) in [(false, "dilation"), (true, "erosion")] {
+    for (erode, what) in [(false, "dilation"), (true, "erosion")] {
         for &mask in masks {
-            let case = Case::new(table.size, mask, erode);
-            let name = format!("{kind} by {mask}, {} cells", mask.count_ones());
+            let case = Case::new(table.size, mask, Mode { erode, around });
+            let cells = mask.count_ones();
+            let name = format!("{what} by {mask}, {cells} cells{}", among(around));
             rows.push(table.row(name, engines(&case)));
         }
     }
@@ -113,5 +120,8 @@ pub fn rows(table: &mut Table, masks: &[u32]) -> Vec<Row> {
 }
 
 pub fn run() -> Vec<Row> {
-    rows(&mut Table::new("stage", GREATEST, PACE), &MASKS)
+    let mut table = Table::new("stage", GREATEST, PACE);
+    let mut all = rows(&mut table, &MASKS, Around::Free);
+    all.extend(rows(&mut table, &MASKS_AMONG_1S, Around::Occupied));
+    all
 }

@@ -10,19 +10,24 @@ use std::time::Instant;
 pub struct Engine<'a> {
     name: &'static str,
     run: Box<dyn FnMut(bool) -> Vec<u8> + 'a>,
-    /// Copies bytes alone, so what comes of it isn't compared.
-    copies: bool,
+    compared: bool,
 }
 
 impl<'a> Engine<'a> {
     pub fn new(name: &'static str, run: impl FnMut(bool) -> Vec<u8> + 'a) -> Engine<'a> {
-        let (run, copies) = (Box::new(run), false);
-        Engine { name, run, copies }
+        let (run, compared) = (Box::new(run), true);
+        Engine {
+            name,
+            run,
+            compared,
+        }
     }
 
-    pub fn copying(self) -> Engine<'a> {
+    /// The same, but what comes of it isn't compared: it copies bytes alone, or has another
+    /// result.
+    pub fn uncompared(self) -> Engine<'a> {
         Engine {
-            copies: true,
+            compared: false,
             ..self
         }
     }
@@ -92,6 +97,9 @@ pub struct Pace {
     pub decimals: usize,
 }
 
+/// Characters of the first column.
+const FIRST: usize = 38;
+
 /// A table that is printed while it is measured.
 pub struct Table {
     pub size: Size,
@@ -99,7 +107,8 @@ pub struct Table {
     what: &'static str,
     /// The engines that are timed, all of them if there is no list.
     only: Option<&'static [&'static str]>,
-    begun: bool,
+    /// The columns: the engines of the first row, without the library. No row has others.
+    columns: Option<Vec<&'static str>>,
 }
 
 /// A row as it was measured, each engine's seconds by round; the first of its engines is
@@ -134,7 +143,7 @@ impl Table {
             pace,
             what,
             only: None,
-            begun: false,
+            columns: None,
         }
     }
 
@@ -163,27 +172,31 @@ impl Table {
         row
     }
 
-    /// The library's microseconds, and its time over each other's; the names of the
-    /// columns above the first row.
+    /// The library's microseconds, and its time over each other's, with a dash for an engine
+    /// that the row hasn't; the names of the columns above the first row.
     fn print(&mut self, row: &Row) {
-        let others = row.engines[1..].iter();
-        if !self.begun {
-            let names: Vec<String> = others.clone().map(|name| format!("{name:>16}")).collect();
-            let what = format!("{}, {}", self.what, self.size);
-            println!("{what:<28}{:>10}{}", "us", names.concat());
-            self.begun = true;
-        }
-        let ratios = others.filter_map(|name| row.over(name));
-        let ratios: Vec<String> = ratios.map(|ratio| format!("{ratio:>16.2}")).collect();
+        let what = format!("{}, {}", self.what, self.size);
+        let columns = self.columns.get_or_insert_with(|| {
+            let others = row.engines[1..].to_vec();
+            let names: Vec<String> = others.iter().map(|name| format!("{name:>16}")).collect();
+            println!("{what:<FIRST$}{:>10}{}", "us", names.concat());
+            others
+        });
+        let ratio = |name: &&str| match row.over(name) {
+            Some(ratio) => format!("{ratio:>16.2}"),
+            None => format!("{:>16}", "-"),
+        };
+        let ratios: Vec<String> = columns.iter().map(ratio).collect();
+        let (name, ratios) = (&row.name, ratios.concat());
         let (time, decimals) = (row.microseconds(), self.pace.decimals);
-        println!("{:<28}{time:>10.decimals$}{}", row.name, ratios.concat());
+        println!("{name:<FIRST$}{time:>10.decimals$}{ratios}");
     }
 }
 
-/// All engines come to the same as the first.
+/// All engines that are compared come to the same as the first.
 fn assert_agreement(row: &str, engines: &mut [Engine]) {
     let wanted = (engines[0].run)(true);
-    for engine in engines.iter_mut().filter(|engine| !engine.copies) {
+    for engine in engines.iter_mut().filter(|engine| engine.compared) {
         let same = (engine.run)(true) == wanted;
         assert!(same, "{row}: {} and the library differ", engine.name);
     }
