@@ -1,7 +1,6 @@
 // Eight rows of cells put into one row of bytes, in one pass.
-ghost use mathlib.Core.Path.{_≡_};
 ghost use Prim.Native.Nat.{_+_, _*_, _%_, _≤_};
-ghost use lib.ListN.{length, getD};
+ghost use lib.ListN.{length};
 ghost use Rattle.planes.specs.Bytes.{Bitted};
 ghost use Rattle.plane_eight_steps.specs.Eights.{Four, Eight, eightBit};
 

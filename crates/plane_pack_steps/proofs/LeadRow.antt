@@ -3,24 +3,17 @@ use mathlib.Core.Path.{_≡_, sym, ap, _∙_, subst}
 use mathlib.Core.Logic.{⊎-elim}
 use mathlib.Core.Bool.{Bool, true, false, cond}
 use mathlib.Core.List.{List}
-use Prim.Native.Nat.{ℕ, zero, suc, _+_, _-_, _*_, _/_, _%_, _<_, _≤_, zero-le}
-use native.Mathlib.Nat.{zero-add, mul-comm, mul-le-mul-right}
+use Prim.Native.Nat.{ℕ, _+_, _-_, _*_, _/_, _%_, _<_, _≤_, zero-le}
+use native.Mathlib.Nat.{mul-comm, mul-le-mul-right}
 use native.Mathlib.Omega.{arith}
-use lib.Dec.{T, ltb, eqb}
+use lib.Dec.{T, ltb}
 use lib.ListN.{length, getD}
-use borrow.Author.Tests.{lt-ltb, le-ltb, eq-eqb, ne-eqb}
-use borrow.Rule.Slice.PartMut.{midOf, putMid}
+use borrow.Author.Tests.{lt-ltb, le-ltb}
 use Rattle.plane.proofs.Tests.{lt-or-le}
 use Rattle.rows.specs.Cells.{bit}
-use Rattle.rows.proofs.RowBits.{bit-cut, no-bit}
-use Rattle.rows.proofs.Sums.{ones16}
-use Rattle.ranges.specs.Ranges.{Ranged}
-use Rattle.ranges.proofs.Ranges.{getD-mid}
 use Rattle.ranges.proofs.FlatRows.{rows-apart}
 use Rattle.ranges.proofs.Values.{value-in}
-use Rattle.planes.specs.Bytes.{Bitted}
 use Rattle.planes.specs.Planes.{byteRows, planeSize, bitSeen, lowBits, placeOf, PlaneOnly, FramePacked}
-use Rattle.planes.proofs.Bitting.{bitted-part}
 use Rattle.planes.proofs.OnGrids.{low-at, low-size}
 use Rattle.planes.proofs.Views.{in-both, out-above, out-side}
 use Rattle.plane_pack_steps.specs.Packing.{LeadPut, leadOf, framed, Until, Packable}

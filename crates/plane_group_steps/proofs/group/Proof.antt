@@ -1,5 +1,4 @@
 -- Where the rows do not fit nothing is written; where they do, putting them is the whole promise.
-use native.Mathlib.Omega.{arith}
 use borrow.Author.Needs.{needs}
 use lib.ListN.{length}
 use Rattle.ranges.proofs.Sizing.{was-kept, was-done, test-fails, test-holds}

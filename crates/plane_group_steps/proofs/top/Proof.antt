@@ -1,8 +1,6 @@
 -- Where the row does not fit nothing is written; else the value outside goes into all bits but the highest, and then the row into that.
-use native.Mathlib.Omega.{arith}
 use borrow.Author.Needs.{needs}
 use lib.ListN.{length}
-use borrow.Author.Tests.{le-leb, lt-leb}
 use Rattle.ranges.proofs.Sizing.{was-kept, was-done}
 use Rattle.plane_group_steps.specs.Groups.{topFits}
 use Rattle.plane_group_steps.proofs.TopRow.{top-bits, top-short, top-high, top-fits}

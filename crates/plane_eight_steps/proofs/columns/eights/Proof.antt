@@ -1,7 +1,7 @@
 -- Each byte passed has eight cells of its column; the measure is what is left of the run.
 use mathlib.Core.Path.{_≡_}
-use Prim.Native.Nat.{_+_, _*_, _%_, _-_, _≤_}
-use lib.ListN.{length, getD}
+use Prim.Native.Nat.{_-_, _≤_}
+use lib.ListN.{length}
 use Rattle.planes.specs.Bytes.{Bitted}
 use Rattle.plane_eight_steps.specs.Eights.{eightBit}
 use Rattle.plane_eight_steps.proofs.EightBits.{eight-bits}
