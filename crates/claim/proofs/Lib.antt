@@ -9,3 +9,4 @@ pub mod Kept
 pub mod Claimed
 pub mod Measured
 pub mod Examples
+pub mod FrameExamples
