@@ -22,10 +22,10 @@ stage-of : (stage 3 ≡ true) × (stage 1 ≡ false) × (stage 6 ≡ false) × (
 unfolding stage
 stage-of = (refl, refl, refl, refl, refl)
 
--- cells 4 and 5 shifted down by a row and by a column
-shifted : (normalOf 48 ≡ 3) × (normalOf 256 ≡ 1) × (normalOf 0 ≡ 0)
+-- cells 4 and 5 shifted down by a row and by a column; cells 4 and 6 by a row alone, since cell 6 is in column 0
+shifted : (normalOf 48 ≡ 3) × (normalOf 80 ≡ 10) × (normalOf 256 ≡ 1) × (normalOf 0 ≡ 0)
 unfolding normalOf
-shifted = (refl, refl, refl)
+shifted = (refl, refl, refl, refl)
 
 -- with no stage the sum is one point
 sum-none : sumOf [] ≡ (pos 0, pos 0) ∷ []

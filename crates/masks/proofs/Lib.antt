@@ -7,6 +7,6 @@ pub mod Order
 pub mod Search
 pub mod Placed
 pub mod Bounds
-pub mod Entries
+pub mod Shifts
 pub mod Measured
 pub mod Examples

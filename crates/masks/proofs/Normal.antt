@@ -1,4 +1,4 @@
--- The rule of the table of normal positions: one test, computed over the 512 masks and carried to each. There are 400 non-empty masks in normal
+-- The rule of normal positions: one test, computed over the 512 masks and carried to each. There are 400 non-empty masks in normal
 -- position, 399 with two cells or more.
 use mathlib.Core.Path.{_≡_, refl, sym, _∙_, ap, ap₂, subst}
 use mathlib.Core.Logic.{_⊎_, _≢_, inl, inr}
@@ -56,7 +56,7 @@ moved-cells xs s t p = (
     f : Cell → Cell
     f = shifted s t
 
--- ---- the rule of the table
+-- ---- the rule
 
 -- the cells of the normal position of m, moved back
 back : ℕ → List Cell
@@ -78,15 +78,15 @@ right : ℕ → Bool
 unfolding back kind sameCells
 right m = sameCells (maskCells m) (back m) && kind m
 
--- the whole table, tested
-table : T (all right (upTo 512))
+-- at every mask, tested
+tested : T (all right (upTo 512))
 unfolding right
-table = tt
+tested = tt
 
--- the table's rule at each mask
+-- and carried to each
 checked : (m : ℕ) → m < 512 → T (sameCells (maskCells m) (back m)) × T (kind m)
 unfolding right
-checked m h = T-and (sameCells (maskCells m) (back m)) (kind m) .0 (each-below right 512 table m h)
+checked m h = T-and (sameCells (maskCells m) (back m)) (kind m) .0 (each-below right 512 tested m h)
 
 pub normal-move : (m : ℕ) → m < 512 → Mask m ≐ moved (pos (columnShift m), pos (rowShift m)) (Mask (normalOf m))
 unfolding back
@@ -120,7 +120,7 @@ normal-or-zero m h = go (T-or (eqb m 0 && eqb n 0) (not (eqb m 0) && single n) .
         let v = T-and (normal n) (eqb n 1 || stage n) .0 (u .1) in
         inr ((λ e. T-not (eqb m 0) (u .0) (eq-eqb e)), v .0, which (T-or (eqb n 1) (stage n) .0 (v .1)))
 
--- the rule, carried to each entry
+-- the rule, whole
 pub normal-position : (m : ℕ) → m < 512 → NormalPosition m (normalOf m)
 normal-position m h = record { entry = refl; zero = is .0; normal-is = is .1; shift = (pos (columnShift m), pos (rowShift m)); move = normal-move m h }
   where

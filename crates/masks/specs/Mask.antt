@@ -1,4 +1,4 @@
--- Document 01, "Words" and "Stages and plans": the cells of a mask, normal position, stages, and the rule of the table of normal positions.
+-- Document 01, "Words" and "Stages and plans": the cells of a mask, stages, and normal position with its rule (document 02, W4).
 use mathlib.Core.Path.{_≡_}
 use mathlib.Core.Logic.{_≢_}
 use mathlib.Core.Bool.{Bool, cond, _&&_}
@@ -37,7 +37,7 @@ unfoldable pub stage : ℕ → Bool
 unfolding maskCells normal
 stage m = ltb m 512 && normal m && leb 2 (length (maskCells m))
 
--- ---- the table of normal positions
+-- ---- normal position
 
 -- how many columns, and how many rows, are empty before the first with a cell
 unfoldable pub columnShift : ℕ → ℕ
@@ -53,7 +53,7 @@ unfoldable pub normalOf : ℕ → ℕ
 unfolding columnShift rowShift
 normalOf m = m / 2 ^ (3 * rowShift m + columnShift m)
 
--- the rule of an entry n for the mask m: it is normal and a move of the mask; 0 for 0
+-- the rule of the normal position n of the mask m: it is normal and a move of the mask; 0 for 0
 pub record NormalPosition (m n : ℕ) : Type 0 where
   pub entry : n ≡ normalOf m
   pub zero : m ≡ 0 → n ≡ 0
