@@ -10,9 +10,9 @@
  * stages, masks never falling (2 to 32 words).
  *
  * Answers. Each call answers 0 or more, as is said there, or -N, where N is the ground on which it refuses (enum
- * musq_ground); musq_part refuses nothing. Grounds are tried in the order in which they stand at each call, each over
- * all that is given before the next, and the first that holds is the answer. A refusal changes nothing. What is lent for
- * reading (const) is never changed.
+ * musq_ground); musq_part and musq_normal_position refuse nothing. Grounds are tried in the order in which they stand at
+ * each call, each over all that is given before the next, and the first that holds is the answer. A refusal changes
+ * nothing. What is lent for reading (const) is never changed.
  *
  * Pointers. Each list, frame and image is a pointer and the number of its words or bytes. Where that number is 0 the
  * pointer may be null, in every call, and the call answers as for any empty list, frame or image. Else the pointer is
@@ -75,6 +75,11 @@ int64_t musq_plan(const uint32_t *shape, size_t n, uint32_t *out, size_t out_n);
  * are none). Writes the shape's list with the least anchor and answers 2 to 17.
  * Grounds: 1, 2, 3, 5, 6, 7, 8, 9. */
 int64_t musq_shape_of_plan(const uint32_t *plan, size_t n, uint32_t *out, size_t out_n);
+
+/* The normal position of a mask, of which cell (i, j) is bit 3j + i: shifted down by rows until row 0 has a cell, then by
+ * columns until column 0 has one; 0 for 0. Bits above the ninth are not read, so that the answer is always below 512.
+ * Refuses nothing. */
+uint16_t musq_normal_position(uint16_t mask);
 
 /* Moves a shape: adds dx to the x and dy to the y of each of its points. Any dx and dy may be given; there is no
  * overflow. Writes the new shape's list with the least anchor and answers 2 to 17.

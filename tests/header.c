@@ -53,6 +53,16 @@ static void expect_second(const char *call, int64_t n, const uint8_t *image, con
     check(call, n == 0 && memcmp(image, all, IMAGE) == 0);
 }
 
+static void masks(void)
+{
+    check("musq_normal_position, none", musq_normal_position(0) == 0);
+    check("musq_normal_position, as it is", musq_normal_position(511) == 511);
+    check("musq_normal_position, two rows", musq_normal_position(0x1c0) == 7);
+    check("musq_normal_position, a column", musq_normal_position(0x124) == 0x49);
+    check("musq_normal_position, a slant", musq_normal_position(80) == 10);
+    check("musq_normal_position, nine bits", musq_normal_position(0xfe50) == 10);
+}
+
 static void frames(void)
 {
     static const uint8_t put[] = {1, 0, 1, 0, 0};
@@ -253,6 +263,7 @@ static void arrivals(void)
 int main(void)
 {
     lists();
+    masks();
     frames();
     second_kind();
     operations();

@@ -8,6 +8,7 @@ pub mod frames;
 pub mod hard;
 pub mod library;
 pub mod lists;
+pub mod masks;
 pub mod operations;
 pub mod random;
 pub mod reference;

@@ -1,4 +1,4 @@
-//! The library's five calls on lists, and safe wrappers on slices.
+//! The library's five calls on lists, with safe wrappers on slices, and its call on a mask.
 
 use crate::cases::Call;
 
@@ -30,10 +30,11 @@ mod boundary {
             out_n: usize,
         ) -> i64;
         pub fn musq_plan(shape: *const u32, n: usize, out: *mut u32, out_n: usize) -> i64;
+        pub fn musq_normal_position(mask: u16) -> u16;
     }
 }
 
-// In all five: a slice's pointer is never null, even of an empty slice, and
+// In the five on lists: a slice's pointer is never null, even of an empty slice, and
 // holds for its length; the borrow rules keep the output off the inputs.
 
 pub fn shape_of_plan(plan: &[u32], out: &mut [u32]) -> i64 {
@@ -62,6 +63,12 @@ pub fn sum(a: &[u32], b: &[u32], out: &mut [u32]) -> i64 {
 pub fn plan(shape: &[u32], out: &mut [u32]) -> i64 {
     // SAFETY: pointers and lengths are those of live slices, see above.
     unsafe { boundary::musq_plan(shape.as_ptr(), shape.len(), out.as_mut_ptr(), out.len()) }
+}
+
+/// The normal position of a mask.
+pub fn normal_position(mask: u16) -> u16 {
+    // SAFETY: the call takes a number and gives a number, and no memory is lent.
+    unsafe { boundary::musq_normal_position(mask) }
 }
 
 /// The call on these lists; `b` and `offset` are passed over where it takes none.

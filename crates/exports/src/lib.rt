@@ -1,5 +1,7 @@
 // The calls for Rust and C: one function for each, on plain numbers and slices (a pointer and a length). include/musqerpi.h declares them.
 // An answer is the result, or −N for refusal N; what it and the lent words are is said by the call that each stands for.
+ghost use Prim.Native.Nat.{_%_};
+ghost use Rattle.masks.specs.Mask.{NormalPosition};
 ghost use Rattle.shapes.specs.Calls.{Moved, Joined, Summed, TurnedBack};
 ghost use Rattle.planning.specs.Planning.{Planned};
 ghost use Rattle.grids.specs.Frame.{LoadCounted};
@@ -24,6 +26,14 @@ pub extern "C" fn musq_shape_of_plan(plan: &[u32], out: &mut [u32]) -> i64
     ensures { λ r. ⌜ Stands r (λ a. TurnedBack (now (plan .entry)) (now (out .entry)) a (now (out .exit))) ⌝ }
 {
     numbers::signed(shape_calls::shape_of_plan(plan, out))
+}
+
+// The normal position of a mask, of which the lowest nine bits are read.
+#[no_mangle]
+pub extern "C" fn musq_normal_position(mask: u16) -> u16
+    ensures { λ r. ⌜ NormalPosition (mask % 512) r ⌝ }
+{
+    masks::normal_position(mask)
 }
 
 // Moving a shape.
