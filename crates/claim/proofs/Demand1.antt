@@ -18,6 +18,7 @@ use Rattle.grids.specs.Share.{told}
 use Rattle.grids.specs.Grid.{putTests, stageTests, GridWritten, put, once}
 use Rattle.cleaning.specs.Cleaning.{operationTests, Ran}
 use Rattle.rolling.specs.Rolling.{arrivalTests, Rolled}
+use Rattle.claim.proofs.Positions.{below-512}
 use Rattle.claim.specs.Demand1.{First, NoChain, Demand1}
 
 -- the number in what an answer says
@@ -53,6 +54,7 @@ demand1 = record {
   summing = λ ws vs out r out′ a. first (summingTests ws vs out) r (out′ ≡ out) (ListWritten (summedPoints ws vs) out r out′) a (λ w. ground (w .answer));
   turning = λ ws out r out′ a. first (turningTests ws out) r (out′ ≡ out) (ListWritten (planPoints ws) out r out′) a (λ w. ground (w .answer));
   planning = plan-first;
+  positioning = below-512;
   putting = λ k W H f i r i′ a. first (putTests W H f i) r (i′ ≡ i) (GridWritten W H (put k W H f) i r i′) a (λ w. ground (w .answer));
   staging = λ erode k w W H g i r i′ a. first (stageTests w W H g i) r (i′ ≡ i) (GridWritten W H (once erode k W H (stageMask w) g) i r i′) a
       (λ q. ground (q .answer));

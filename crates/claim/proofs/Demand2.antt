@@ -31,6 +31,7 @@ use Rattle.cleaning.specs.Cleaning.{Cleaned, operationTests, part}
 use Rattle.cleaning.specs.Operation.{Direct}
 use Rattle.claim.proofs.Arriving.{row-shows}
 use Rattle.claim.proofs.Outside.{direct-shows}
+use Rattle.claim.proofs.Positions.{position-shown}
 use Rattle.claim.specs.Demand2.{Demand2}
 use Rattle.claim.specs.Shows.{ListShows}
 use Rattle.claim.proofs.Cells.{put-shown, stage-shown, load-counted, share-shown}
@@ -89,6 +90,7 @@ demand2 = record {
   joining = λ ws vs out r out′ a e. shown (joinedPoints ws vs) out out′ r (joined-fits ws vs out e) (In-append (shapePoints ws) (shapePoints vs)) (a .done e);
   summing = λ ws vs out r out′ a e. shown (summedPoints ws vs) out out′ r (summed-fits ws vs out e) (sums-is (shapePoints ws) (shapePoints vs)) (a .done e);
   turning = λ ws out r out′ a e. shown (planPoints ws) out out′ r (turned-fits ws out e) (plan-points ws) (a .done e);
+  positioning = position-shown;
   cleaning = λ op plan W H f i j s i′ j′ a e.
       direct-shows W H f (frame-long plan W H f i j e) op (In (planPoints plan)) (part (stated s .1) W H i′ j′) (part-direct op plan W H f i j s i′ j′ a e);
   putting = put-shown;

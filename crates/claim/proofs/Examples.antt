@@ -1,18 +1,20 @@
 -- What the demands say on cases, each read off the demand alone: a demand that is loosened, or says another thing, no longer gives them.
 use mathlib.Core.Path.{_≡_, refl, sym, _∙_, ap, subst}
-use mathlib.Core.Logic.{⊎-elim}
+use mathlib.Core.Logic.{inl, ⊎-elim}
 use mathlib.Core.List.{List, [], _∷_}
-use Prim.Native.Nat.{ℕ, _+_, _≤_}
+use Prim.Native.Nat.{ℕ, _+_, _%_, _≤_, _<_}
 use native.Mathlib.Omega.{arith}
-use lib.IntN.{pos}
+use lib.IntN.{ℤ, pos}
 use lib.ListN.{length, take, drop, getD, replicate}
 use lib.Seq.{getD-drop}
-use Rattle.plane.specs.Point.{_+ᵖ_, negᵖ, origin}
+use Rattle.plane.specs.Lists.{In}
+use Rattle.plane.specs.Point.{_+ᵖ_, _-ᵖ_, negᵖ, origin}
 use Rattle.plane.proofs.Algebra.{≐-trans, ≐-sym}
 use Rattle.words.specs.Ground.{stated, result, refusal}
 use Rattle.words.specs.declared.Answer.{Answer}
 use Rattle.masks.specs.Chain.{Chain, subset}
-use Rattle.masks.specs.Mask.{maskCells}
+use Rattle.masks.specs.Mask.{maskCells, maskPoints, normalOf, NormalPosition}
+use Rattle.masks.proofs.Normal.{normal-position}
 use Rattle.masks.proofs.Measured.{four}
 use Rattle.shapes.specs.Calls.{Moved, movedPoints, TurnedBack}
 use Rattle.shapes.specs.Listed.{listed}
@@ -32,6 +34,7 @@ use Rattle.claim.specs.RoundTrip.{RoundTrip}
 use Rattle.claim.specs.Whole.{handedFor, Lent}
 use Rattle.claim.proofs.Demand2.{moved-is}
 use Rattle.claim.proofs.Measured.{accepts}
+use Rattle.claim.proofs.Positions.{position-shown, position-once}
 
 -- the row of four cells has a chain of two members
 four-chain : (c : Chain subset (ShapeSet fourWords)) × (length (c .members) ≡ 2)
@@ -48,7 +51,35 @@ four-not-ten D out h r out′ p t = ⊎-elim
     (λ n. n .none (four-chain .0))
     (D .planning fourWords out r out′ p)
 
+-- all bits of the argument: a mask is answered
+position-answers : Demand1 → (n : ℕ) → NormalPosition (0xffff % 512) n → n < 512
+position-answers D n p = D .positioning 0xffff n p
+
 -- ---- demand 2
+
+-- cells 4 and 6, and bits above the ninth: row 0 has a cell then, and column 0
+position-rows : Demand2 → (n : ℕ) → NormalPosition (0xfe50 % 512) n → (x : ℤ) × In (maskPoints n) (x, pos 0)
+unfolding maskCells
+position-rows D n p = D .positioning 0xfe50 n p .row-0 (pos 1, pos 1) (inl refl)
+
+position-columns : Demand2 → (n : ℕ) → NormalPosition (0xfe50 % 512) n → (y : ℤ) × In (maskPoints n) (pos 0, y)
+unfolding maskCells
+position-columns D n p = D .positioning 0xfe50 n p .column-0 (pos 1, pos 1) (inl refl)
+
+-- cell 4 is there, moved
+position-moved : Demand2 → (n : ℕ) → NormalPosition (0xfe50 % 512) n → (c r : ℕ) × In (maskPoints n) ((pos 1, pos 1) -ᵖ (pos c, pos r))
+unfolding maskCells
+position-moved D n p = let s = D .positioning 0xfe50 n p in (s .columns, s .rows, s .move (pos 1, pos 1) .0 (inl refl))
+
+-- the tenth bit alone is no cell
+position-none : Demand2 → (n : ℕ) → NormalPosition (0x200 % 512) n → n ≡ 0
+unfolding maskCells
+position-none D n p = D .positioning 0x200 n p .none (λ q h. h)
+
+-- together these leave 10 alone
+position-ten : Demand2 → (n : ℕ) → NormalPosition (0xfe50 % 512) n → n ≡ 10
+unfolding normalOf
+position-ten D n p = position-once 0xfe50 n 10 (D .positioning 0xfe50 n p) (position-shown 0xfe50 10 (normal-position 80 (omega arith)))
 
 -- two columns moved: the words past the two of the list are as they were
 moved-past : Demand2 → (r : Answer) (out′ : List ℕ) → Moved (0x10000000 ∷ 0x20000005 ∷ []) (pos 2, pos 3) (replicate 18 7) r out′ → stated r .1 ≡ 2

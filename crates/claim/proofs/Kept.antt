@@ -3,6 +3,7 @@ use mathlib.Core.Path.{_≡_, refl}
 use mathlib.Core.Logic.{_⊎_, inl, inr}
 use mathlib.Core.List.{List, _++_}
 use Prim.Native.Nat.{ℕ, _*_, _/_, _%_}
+use native.Mathlib.Omega.{arith}
 use lib.Dec.{T}
 use lib.ListN.{length, drop}
 use Rattle.words.specs.declared.Answer.{Answer}
@@ -13,7 +14,8 @@ use Rattle.words.specs.Ground.{Test, firstOf, stated, result, Answered}
 use Rattle.words.specs.Word.{stageMask}
 use Rattle.words.proofs.Kept.{known, can-promise, can-keep}
 use Rattle.masks.specs.Chain.{Chain, subset, Picked}
-use Rattle.masks.specs.Mask.{stage}
+use Rattle.masks.specs.Mask.{stage, normalOf}
+use Rattle.masks.proofs.Normal.{normal-position}
 use Rattle.shapes.specs.Calls.{ListWritten, ListAnswered, movingTests, movedPoints, joiningTests, joinedPoints, summingTests, summedPoints, turningTests}
 use Rattle.shapes.specs.Listed.{listed}
 use Rattle.shapes.specs.Plan.{planTests, planPoints}
@@ -75,6 +77,7 @@ kept = record {
   summing = λ ws vs out. list-kept (summingTests ws vs out) (summedPoints ws vs) out tt;
   turning = λ ws out. list-kept (turningTests ws out) (planPoints ws) out tt;
   planning = plan-kept;
+  positioning = λ m. (normalOf (m % 512), normal-position (m % 512) (omega arith));
   counting = λ W H f.
       let q = can-keep {S = Unit {0}} (frameTests W H f) tt tt (λ _. Unit {0}) (λ r _. stated r ≡ result (load f)) tt (λ _. (Done (load f), tt, refl)) in
       (q .0, q .2);

@@ -1,3 +1,4 @@
+pub mod Positions
 pub mod Demand1
 pub mod Cells
 pub mod Arriving

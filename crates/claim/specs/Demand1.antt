@@ -4,11 +4,12 @@ use mathlib.Core.Path.{_≡_}
 use mathlib.Core.Logic.{_⊎_, _≢_}
 use mathlib.Core.Bool.{Bool}
 use mathlib.Core.List.{List}
-use Prim.Native.Nat.{ℕ}
+use Prim.Native.Nat.{ℕ, _%_, _<_}
 use Rattle.plane.specs.Point.{Point}
 use Rattle.words.specs.Ground.{Test, firstOf, stated, refusal}
 use Rattle.words.specs.declared.Answer.{Answer}
 use Rattle.masks.specs.Chain.{Chain}
+use Rattle.masks.specs.Mask.{NormalPosition}
 use Rattle.shapes.specs.Calls.{Moved, movingTests, Joined, joiningTests, Summed, summingTests, TurnedBack, turningTests}
 use Rattle.planning.specs.Planning.{ShapeSet, member, planningTests, Planned}
 use Rattle.grids.specs.Frame.{frameTests, LoadCounted}
@@ -40,6 +41,8 @@ pub record Demand1 : Type 0 where
   pub turning : (ws out : List ℕ) (r : Answer) (out′ : List ℕ) → TurnedBack ws out r out′ → First (turningTests ws out) r (out′ ≡ out)
   pub planning : (ws out : List ℕ) (r : Answer) (out′ : List ℕ) → Planned ws out r out′
       → First (planningTests ws out) r (out′ ≡ out) ⊎ NoChain ws out r out′
+  -- normal position meets no ground and is lent nothing: every argument is answered by a mask
+  pub positioning : (m n : ℕ) → NormalPosition (m % 512) n → n < 512
   pub counting : (W H : ℕ) (f : List ℕ) (r : Answer) → LoadCounted W H f r → stated r .0 ≡ firstOf (frameTests W H f)
   pub sharing : (W H : ℕ) (f : List ℕ) (a : Share) → Shared W H f a → told a .0 ≡ firstOf (frameTests W H f)
   pub putting : (k : Around) (W H : ℕ) (f i : List ℕ) (r : Answer) (i′ : List ℕ) → FramePut k W H f i r i′ → First (putTests W H f i) r (i′ ≡ i)

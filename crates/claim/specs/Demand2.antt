@@ -6,14 +6,14 @@ use mathlib.Core.Path.{_≡_}
 use mathlib.Core.Logic.{_⊎_}
 use mathlib.Core.Bool.{Bool}
 use mathlib.Core.List.{List}
-use Prim.Native.Nat.{ℕ}
+use Prim.Native.Nat.{ℕ, _%_}
 use Rattle.plane.specs.Lists.{In}
 use Rattle.plane.specs.Point.{Point, _⊕_, moved}
 use Rattle.words.specs.Ground.{firstOf, stated, result}
 use Rattle.words.specs.Word.{stageMask}
 use Rattle.words.specs.declared.Answer.{Answer}
 use Rattle.masks.specs.Chain.{sumOf}
-use Rattle.masks.specs.Mask.{maskPoints}
+use Rattle.masks.specs.Mask.{maskPoints, NormalPosition}
 use Rattle.shapes.specs.Plan.{planPoints, planOffset, planMasks}
 use Rattle.shapes.specs.Calls.{Moved, movingTests, Joined, joiningTests, Summed, summingTests, TurnedBack, turningTests}
 use Rattle.planning.specs.Planning.{ShapeSet}
@@ -25,7 +25,7 @@ use Rattle.grids.specs.declared.Share.{Share}
 use Rattle.cleaning.specs.Cleaning.{operationTests, part, Cleaned}
 use Rattle.cleaning.specs.declared.Operation.{Operation}
 use Rattle.rolling.specs.Rolling.{arrivalTests, Arrived}
-use Rattle.claim.specs.Shows.{ListShows, beyond, gridPoints, GridShows, stageMade, operationMade, PartShows, occupiedPoints, ShareShows, RowShows}
+use Rattle.claim.specs.Shows.{ListShows, PositionShows, beyond, gridPoints, GridShows, stageMade, operationMade, PartShows, occupiedPoints, ShareShows, RowShows}
 
 pub record Demand2 : Type 0 where
   -- the words written stand for exactly the points moved, joined or summed, or for those of the plan
@@ -37,6 +37,8 @@ pub record Demand2 : Type 0 where
       → ListShows (ShapeSet ws ⊕ ShapeSet vs) out r out′
   pub turning : (ws out : List ℕ) (r : Answer) (out′ : List ℕ) → TurnedBack ws out r out′ → firstOf (turningTests ws out) ≡ 0
       → ListShows (moved (planOffset ws) (In (sumOf (planMasks ws)))) out r out′
+  -- the normal position of a mask, whatever the argument holds above nine bits
+  pub positioning : (m n : ℕ) → NormalPosition (m % 512) n → PositionShows m n
   -- on every accepted plan list and frame, whoever wrote the plan, what is handed back for the number that the operation answered is what the plane's
   -- definitions make of the frame and the plan's points
   pub cleaning : (op : Operation) (plan : List ℕ) (W H : ℕ) (f i j : List ℕ) (s : Answer) (i′ j′ : List ℕ) → Cleaned op plan W H f i j s i′ j′

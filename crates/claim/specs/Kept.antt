@@ -4,11 +4,12 @@ use mathlib.Core.Path.{_≡_}
 use mathlib.Core.Logic.{_⊎_}
 use mathlib.Core.Bool.{Bool}
 use mathlib.Core.List.{List}
-use Prim.Native.Nat.{ℕ}
+use Prim.Native.Nat.{ℕ, _%_}
 use Rattle.plane.specs.Point.{Point}
 use Rattle.words.specs.Ground.{firstOf}
 use Rattle.words.specs.declared.Answer.{Answer}
 use Rattle.masks.specs.Chain.{Chain, Picked}
+use Rattle.masks.specs.Mask.{NormalPosition}
 use Rattle.shapes.specs.Calls.{Moved, Joined, Summed, TurnedBack}
 use Rattle.planning.specs.Planning.{ShapeSet, member, permitted, planningTests, Planned}
 use Rattle.grids.specs.Frame.{LoadCounted}
@@ -28,6 +29,7 @@ pub record Kept : Type 0 where
   pub planning : (ws out : List ℕ)
       → (firstOf (planningTests ws out) ≡ 0 → (¬ Chain member (ShapeSet ws)) ⊎ ((d : Point) × (ms : List ℕ) × Picked permitted (ShapeSet ws) d ms))
       → (r : Answer) × (out′ : List ℕ) × Planned ws out r out′
+  pub positioning : (m : ℕ) → (n : ℕ) × NormalPosition (m % 512) n
   pub counting : (W H : ℕ) (f : List ℕ) → (r : Answer) × LoadCounted W H f r
   pub sharing : (W H : ℕ) (f : List ℕ) → (a : Share) × Shared W H f a
   pub putting : (k : Around) (W H : ℕ) (f i : List ℕ) → (r : Answer) × (i′ : List ℕ) × FramePut k W H f i r i′

@@ -6,12 +6,13 @@ use mathlib.Core.Bool.{Bool, true, false}
 use mathlib.Core.List.{List}
 use Prim.Native.Nat.{ℕ, suc, _+_, _-_, _*_, _<_}
 use lib.Dec.{eqb}
-use lib.IntN.{pos, natAbs, _-ℤ_}
+use lib.IntN.{ℤ, pos, natAbs, _-ℤ_}
 use lib.ListN.{length, getD, take, drop}
-use Rattle.plane.specs.Lists.{keep}
-use Rattle.plane.specs.Point.{Point, PointSet, _+ᵖ_, _≐_, dilation, erosion, opening, closing}
+use Rattle.plane.specs.Lists.{In, keep}
+use Rattle.plane.specs.Point.{Point, PointSet, _+ᵖ_, _≐_, moved, dilation, erosion, opening, closing}
 use Rattle.words.specs.Ground.{stated, result}
 use Rattle.words.specs.declared.Answer.{Answer}
+use Rattle.masks.specs.Mask.{maskPoints}
 use Rattle.shapes.specs.Listed.{listed}
 use Rattle.shapes.specs.Shape.{shapePoints}
 use Rattle.planning.specs.Planning.{ShapeSet}
@@ -33,6 +34,18 @@ pub record ListShows (S : PointSet) (out : List ℕ) (r : Answer) (out′ : List
   pub stands : ShapeSet (take (stated r .1) out′) ≐ S
   pub laid : take (stated r .1) out′ ≡ listed (shapePoints (take (stated r .1) out′))
   pub past : drop (stated r .1) out′ ≡ drop (stated r .1) out
+
+-- ---- normal position (document 02, W4)
+
+-- the mask n is m, of which nine bits are cells, shifted down by rows until row 0 has a cell, then by columns until column 0 has one; 0 where m has no cell
+pub record PositionShows (m n : ℕ) : Type 0 where
+  pub mask : n < 512
+  pub columns : ℕ
+  pub rows : ℕ
+  pub move : In (maskPoints m) ≐ moved (pos columns, pos rows) (In (maskPoints n))
+  pub row-0 : (p : Point) → In (maskPoints m) p → (x : ℤ) × In (maskPoints n) (x, pos 0)
+  pub column-0 : (p : Point) → In (maskPoints m) p → (y : ℤ) × In (maskPoints n) (pos 0, y)
+  pub none : ((p : Point) → ¬ In (maskPoints m) p) → n ≡ 0
 
 -- ---- grids, of either kind (document 02, W3)
 
