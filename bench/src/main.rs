@@ -1,10 +1,12 @@
 //! Times the library beside other implementations, on the same inputs: the calls that
-//! answer shapes here, planning in planning.rs, frames in frames.rs. See README.md.
+//! answer shapes here, normal position in positions.rs, planning in planning.rs, frames in
+//! frames.rs. See README.md.
 
 mod families;
 mod fast;
 mod frames;
 mod planning;
+mod positions;
 mod quick;
 mod rows;
 mod search;
@@ -163,7 +165,10 @@ fn shape_calls() {
 
 fn main() {
     match std::env::args().nth(1).as_deref() {
-        None => shape_calls(),
+        None => {
+            shape_calls();
+            positions::run();
+        }
         Some("planning") => planning::run(),
         Some("frames") => frames::run(),
         Some(other) => {
