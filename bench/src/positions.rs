@@ -41,8 +41,7 @@ fn looked_up(mask: u16) -> u16 {
     TABLE[usize::from(mask % 512)]
 }
 
-/// All arguments, in an order that no branch can be guessed from: 40,503 is odd, so each
-/// comes once.
+/// All arguments, in scrambled order: 40,503 is odd, so each comes once.
 fn arguments() -> Vec<u16> {
     (0..=u16::MAX).map(|n| n.wrapping_mul(40_503)).collect()
 }
