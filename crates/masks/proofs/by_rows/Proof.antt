@@ -19,7 +19,8 @@ loop-holds c = (c .pre, refl)
 returns : tie.Need-returns Inv-loop μ-loop
 returns c =
     let l = c .before .before .loop in
-    (sym rows-zero ∙ ap rowsDown (sym (c .if1 .taken)) ∙ l .inv .1, omega arith)
+    let e : 0 ≡ l .m = omega (arith, c .before .loop-test .taken, c .if1 .taken) in
+    (sym rows-zero ∙ ap rowsDown e ∙ l .inv .1, omega arith)
 
 loop-less : tie.Need-loop-less Inv-loop μ-loop
 loop-less c = let n = c .if1 .left in omega arith
@@ -27,7 +28,7 @@ loop-less c = let n = c .if1 .left in omega arith
 loop-again : tie.Need-loop-again Inv-loop μ-loop
 loop-again c =
     let l = c .before .before .loop in
-    (omega (arith, l .inv .0), row-step (l .m) (l .inv .0) (c .before .loop-test .taken) ∙ l .inv .1)
+    (omega (arith, l .inv .0), row-step (l .m) (l .inv .0) (omega (arith, c .before .loop-test .taken)) ∙ l .inv .1)
 
 returns-2 : tie.Need-returns-2 Inv-loop μ-loop
 returns-2 c =

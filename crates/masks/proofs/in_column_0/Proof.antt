@@ -19,7 +19,9 @@ returns c =
 returns-2 : tie.Need-returns-2
 returns-2 c =
     let a = c .before .before .args in
-    let e : true ≡ columnBits (a .m) = simp (ne-eqb (a .m % 2) 1 (c .before .if1 .left), eq-eqb (a .m / 8 % 2) 1 (c .if2 .taken)) in
+    let n = c .before .if1 .left in
+    let b : a .m / 8 % 2 ≡ 1 = omega (arith, n, c .if2 .taken) in
+    let e : true ≡ columnBits (a .m) = simp (ne-eqb (a .m % 2) 1 n, eq-eqb (a .m / 8 % 2) 1 b) in
     e ∙ column-bits (a .m) (c .before .before .pre)
 
 returns-3 : tie.Need-returns-3
