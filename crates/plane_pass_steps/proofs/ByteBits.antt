@@ -9,7 +9,7 @@ use borrow.Author.Tests.{le-leb, lt-leb}
 use Rattle.plane.proofs.Tests.{lt-or-le}
 use Rattle.rows.specs.Cells.{bit}
 use Rattle.rows.proofs.RowBits.{bit-or, bit-and, bit-shr, bit-past}
-use Rattle.grids.specs.Frame.{pickOf}
+use Rattle.planes.specs.Bits.{bitPick}
 use Rattle.planes.proofs.WholeBytes.{up-in, up-out}
 use Rattle.plane_pass_steps.specs.Passes.{spanned, ofThree}
 
@@ -24,7 +24,7 @@ module _ (a b t q : ℕ) (h : 0 < t) (u : t < 8) (l : q < 8) (w : b < 256) where
       (lt-or-le q t)
 
 -- the pick of two bits is that of the two bytes' bits
-pub both-bit : (a b q : ℕ) → (bit (bitAnd a b) q ≡ pickOf true (bit a q) (bit b q)) × (bit (bitOr a b) q ≡ pickOf false (bit a q) (bit b q))
+pub both-bit : (a b q : ℕ) → (bit (bitAnd a b) q ≡ bitPick true (bit a q) (bit b q)) × (bit (bitOr a b) q ≡ bitPick false (bit a q) (bit b q))
 both-bit a b q = (bit-and a b q, bit-or a b q)
 
 -- a byte raised from picks of three is the pick of three that are raised

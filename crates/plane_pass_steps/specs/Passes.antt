@@ -5,13 +5,13 @@ use Prim.Native.Nat.{ℕ, _+_, _-_}
 use lib.Dec.{leb}
 use lib.ListN.{length, getD}
 use Rattle.rows.specs.Cells.{bit}
-use Rattle.grids.specs.Frame.{pickOf}
+use Rattle.planes.specs.Bits.{bitPick}
 use Rattle.ranges.specs.Ranges.{Fitted}
 use Rattle.planes.specs.Bytes.{Bitted}
 
 -- the greatest of three bits for dilation, the least for erosion
 abbrev pub ofThree : Bool → ℕ → ℕ → ℕ → ℕ
-ofThree erode a b c = pickOf erode (pickOf erode a b) c
+ofThree erode a b c = bitPick erode (bitPick erode a b) c
 
 -- bit q of the byte that stands t bits below the byte a, in a column where the byte b stands under a: the upper bits of b come first
 abbrev pub spanned : ℕ → ℕ → ℕ → ℕ → ℕ
@@ -41,7 +41,7 @@ liftedBit s c t k q = spanned (getD s (k + c) 0) (getD s k 0) t q
 
 -- bit q of byte k of d, taken together with three bits that are raised
 abbrev pub joinedBit : Bool → List ℕ → List ℕ → ℕ → ℕ → ℕ → ℕ → ℕ → ℕ → ℕ → ℕ
-joinedBit erode d s c x y z t k q = pickOf erode (bit (getD d k 0) q) (ofThree erode (liftedBit s c t (k + x) q) (liftedBit s c t (k + y) q)
+joinedBit erode d s c x y z t k q = bitPick erode (bit (getD d k 0) q) (ofThree erode (liftedBit s c t (k + x) q) (liftedBit s c t (k + y) q)
     (liftedBit s c t (k + z) q))
 
 -- ---- what the passes promise: all of the bytes d, which then are d′, or none where something that is read is not there

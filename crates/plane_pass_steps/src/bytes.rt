@@ -2,12 +2,12 @@
 ghost use mathlib.Core.Path.{_≡_};
 ghost use Prim.Native.Nat.{ℕ, _<_};
 ghost use Rattle.rows.specs.Cells.{bit};
-ghost use Rattle.grids.specs.Frame.{pickOf};
+ghost use Rattle.planes.specs.Bits.{bitPick};
 ghost use Rattle.plane_pass_steps.specs.Passes.{ofThree, spanned};
 
 // The lesser of each pair of bits for erosion, the greater for dilation.
 pub(crate) fn both(a: u8, b: u8, erode: bool) -> u8
-    ensures { λ r. ⌜ ((q : ℕ) → bit r q ≡ pickOf erode (bit a q) (bit b q)) ⌝ }
+    ensures { λ r. ⌜ ((q : ℕ) → bit r q ≡ bitPick erode (bit a q) (bit b q)) ⌝ }
 {
     if erode {
         return a & b;

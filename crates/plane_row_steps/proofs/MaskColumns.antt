@@ -4,7 +4,7 @@ use mathlib.Core.Bool.{Bool, true, false, cond}
 use Prim.Native.Nat.{ℕ, _+_, _≤_, _<_}
 use native.Mathlib.Nat.{add-zero}
 use native.Mathlib.Omega.{arith}
-use Rattle.grids.specs.Frame.{pickOf, seedOf}
+use Rattle.planes.specs.Bits.{bitPick, bitSeed}
 use Rattle.planes.specs.MaskBits.{hasBit, overBits}
 use Rattle.plane_pass_steps.specs.Passes.{ofThree}
 use Rattle.plane_row_steps.specs.MaskRows.{oneColumn, ofColumns, firstColumn, standIn}
@@ -15,8 +15,8 @@ firstTest a b c = cond a 0 (cond b 1 (cond c 2 3))
 
 -- by the three tests
 three-tests : (erode a b c : Bool) (f : ℕ → ℕ) (e : ℕ) → firstTest a b c < 3
-    → oneColumn (pickOf erode) c (f 2) (oneColumn (pickOf erode) b (f 1) (oneColumn (pickOf erode) a (f 0) e))
-    ≡ pickOf erode e (ofThree erode (f (cond a 0 (firstTest a b c))) (f (cond b 1 (firstTest a b c))) (f (cond c 2 (firstTest a b c))))
+    → oneColumn (bitPick erode) c (f 2) (oneColumn (bitPick erode) b (f 1) (oneColumn (bitPick erode) a (f 0) e))
+    ≡ bitPick erode e (ofThree erode (f (cond a 0 (firstTest a b c))) (f (cond b 1 (firstTest a b c))) (f (cond c 2 (firstTest a b c))))
 three-tests true true true true f e h = omega arith
 three-tests true true true false f e h = omega arith
 three-tests true true false true f e h = omega arith
@@ -35,7 +35,7 @@ three-tests false false false true f e h = omega arith
 three-tests false false false false f e h = absurd (let u : 3 < 3 = h in omega arith)
 
 no-tests : (erode a b c : Bool) (f : ℕ → ℕ) (e : ℕ) → firstTest a b c ≡ 3
-    → oneColumn (pickOf erode) c (f 2) (oneColumn (pickOf erode) b (f 1) (oneColumn (pickOf erode) a (f 0) e)) ≡ e
+    → oneColumn (bitPick erode) c (f 2) (oneColumn (bitPick erode) b (f 1) (oneColumn (bitPick erode) a (f 0) e)) ≡ e
 no-tests erode true b c f e h = absurd (let u : 0 ≡ 3 = h in omega arith)
 no-tests erode false true c f e h = absurd (let u : 1 ≡ 3 = h in omega arith)
 no-tests erode false false true f e h = absurd (let u : 2 ≡ 3 = h in omega arith)
@@ -43,16 +43,16 @@ no-tests erode false false false f e h = refl
 
 module _ (erode : Bool) (f : ℕ → ℕ) (m s e : ℕ) where
   pub columns-three : firstColumn m s < 3
-      → ofColumns (pickOf erode) f m s e ≡ pickOf erode e (ofThree erode (f (standIn m s 0)) (f (standIn m s 1)) (f (standIn m s 2)))
+      → ofColumns (bitPick erode) f m s e ≡ bitPick erode e (ofThree erode (f (standIn m s 0)) (f (standIn m s 1)) (f (standIn m s 2)))
   unfolding ofColumns
   columns-three h = rw (add-zero s) (three-tests erode (hasBit m s) (hasBit m (s + 1)) (hasBit m (s + 2)) f e h)
 
-  pub columns-none : firstColumn m s ≡ 3 → ofColumns (pickOf erode) f m s e ≡ e
+  pub columns-none : firstColumn m s ≡ 3 → ofColumns (bitPick erode) f m s e ≡ e
   unfolding ofColumns
   columns-none h = no-tests erode (hasBit m s) (hasBit m (s + 1)) (hasBit m (s + 2)) f e h
 
 -- the seed changes no pick of bits
-pub seed-three : (erode : Bool) (a b c : ℕ) → a ≤ 1 → b ≤ 1 → c ≤ 1 → pickOf erode (seedOf erode) (ofThree erode a b c) ≡ ofThree erode a b c
+pub seed-three : (erode : Bool) (a b c : ℕ) → a ≤ 1 → b ≤ 1 → c ≤ 1 → bitPick erode (bitSeed erode) (ofThree erode a b c) ≡ ofThree erode a b c
 seed-three true a b c u v w = omega arith
 seed-three false a b c u v w = omega arith
 

@@ -11,7 +11,7 @@ use lib.ListN.{length, getD}
 use borrow.Author.Tests.{le-leb, lt-leb}
 use Rattle.plane.proofs.Tests.{lt-or-le}
 use Rattle.rows.specs.Cells.{bit}
-use Rattle.grids.specs.Frame.{pickOf, seedOf}
+use Rattle.planes.specs.Bits.{bitPick, bitSeed}
 use Rattle.planes.specs.MaskBits.{overBits}
 use Rattle.planes.specs.Bytes.{Bitted}
 use Rattle.planes.specs.Planes.{bitSeen}
@@ -88,7 +88,7 @@ module _ (s m : ℕ) (p : List ℕ) {d d₁ d₂ d₃ : List ℕ} where
         let k = y / 8 * s + x - (s + 2) in
         let q = y % 8 in
         let lk : k < length d = omega (arith, row-before s p x y h g) in
-        three-rows (pickOf false) (seedOf false) m (λ b. bitSeen s p (stepOf false x (b % 3)) (stepOf false y (b / 3)))
+        three-rows (bitPick false) (bitSeed false) m (λ b. bitSeen s p (stepOf false x (b % 3)) (stepOf false y (b / 3)))
         (λ i. bit (getD p (k + (s + acrossOf false i)) 0) q) (λ i. liftedBit p s (liftOf false 1) (k + (0 + acrossOf false i)) q)
         (λ i. liftedBit p s (liftOf false 2) (k + (0 + acrossOf false i)) q)
         (bit (getD d₁ k 0) q) (bit (getD d₂ k 0) q) (bit (getD d₃ k 0) q)
@@ -113,7 +113,7 @@ module _ (s m : ℕ) (p : List ℕ) {d d₁ d₂ d₃ : List ℕ} where
         let k = y / 8 * s + x - (s + 2) in
         let q = y % 8 in
         let lk : k < length d = omega (arith, row-before s p x y h g) in
-        three-rows (pickOf true) (seedOf true) m (λ b. bitSeen s p (stepOf true x (b % 3)) (stepOf true y (b / 3)))
+        three-rows (bitPick true) (bitSeed true) m (λ b. bitSeen s p (stepOf true x (b % 3)) (stepOf true y (b / 3)))
         (λ i. bit (getD p (k + (s + 2 + acrossOf true i)) 0) q) (λ i. liftedBit p s (liftOf true 1) (k + (s + 2 + acrossOf true i)) q)
         (λ i. liftedBit p s (liftOf true 2) (k + (s + 2 + acrossOf true i)) q)
         (bit (getD d₁ k 0) q) (bit (getD d₂ k 0) q) (bit (getD d₃ k 0) q)

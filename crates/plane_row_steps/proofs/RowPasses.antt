@@ -10,7 +10,7 @@ use Rattle.plane.proofs.Tests.{lt-or-le}
 use Rattle.rows.specs.Cells.{bit}
 use Rattle.rows.proofs.RowBits.{no-bit}
 use Rattle.ranges.specs.Ranges.{Ranged}
-use Rattle.grids.specs.Frame.{seedOf}
+use Rattle.planes.specs.Bits.{bitSeed}
 use Rattle.planes.specs.MaskBits.{hasBit}
 use Rattle.planes.specs.Bytes.{Bitted}
 use Rattle.planes.proofs.WholeBytes.{ones8}
@@ -20,7 +20,7 @@ use Rattle.plane_row_steps.specs.MaskRows.{firstBit, nextBit, seedByte, 
 use Rattle.plane_row_steps.proofs.MaskColumns.{columns-three, columns-none, seed-three}
 
 -- bits of the byte that a stage begins with
-seed-bits : (erode : Bool) (q : ℕ) → q < 8 → bit (seedByte erode) q ≡ seedOf erode
+seed-bits : (erode : Bool) (q : ℕ) → q < 8 → bit (seedByte erode) q ≡ bitSeed erode
 seed-bits true q l = ones8 q l
 seed-bits false q l = omega (arith, no-bit q)
 
@@ -45,7 +45,7 @@ module _ (erode : Bool) (s : List ℕ) (o m : ℕ) where
       → y ≡ o + acrossOf erode (standIn m 0 1) → z ≡ o + acrossOf erode (standIn m 0 2)
       → Bitted 0 n (levelBit erode s x y z) d d' → Bitted 0 n (firstBit erode s o m) d d'
   first-row x y z h ex ey ez r = bitted-ap r (λ k q lo hi lq. rw (ex, ey, ez)
-      (sym (columns-three erode (first-cell erode s o k q) m 0 (seedOf erode) h
+      (sym (columns-three erode (first-cell erode s o k q) m 0 (bitSeed erode) h
       ∙ seed-three erode (first-cell erode s o k q (standIn m 0 0)) (first-cell erode s o k q (standIn m 0 1)) (first-cell erode s o k q (standIn m 0 2))
       (omega arith) (omega arith) (omega arith))))
 
@@ -53,7 +53,7 @@ module _ (erode : Bool) (s : List ℕ) (o m : ℕ) where
   first-none h r = record {
     len = r .len;
     at = λ k q lo hi lq. ap (λ (v : ℕ). bit v q) (r .at k lo hi) ∙ seed-bits erode q lq
-        ∙ sym (columns-none erode (first-cell erode s o k q) m 0 (seedOf erode) h);
+        ∙ sym (columns-none erode (first-cell erode s o k q) m 0 (bitSeed erode) h);
     below = r .below;
     above = r .above;
   }

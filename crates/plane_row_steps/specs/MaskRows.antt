@@ -6,7 +6,7 @@ use Prim.Native.Nat.{ℕ, _+_, _-_, _*_, _/_, _%_, _<_, _≤_}
 use lib.Dec.{leb}
 use lib.ListN.{length, getD}
 use Rattle.rows.specs.Cells.{bit}
-use Rattle.grids.specs.Frame.{pickOf, seedOf}
+use Rattle.planes.specs.Bits.{bitPick, bitSeed}
 use Rattle.ranges.specs.Ranges.{Fitted}
 use Rattle.planes.specs.MaskBits.{hasBit, overBits}
 use Rattle.planes.specs.Planes.{bitSeen}
@@ -42,10 +42,10 @@ seedByte false = 0
 
 -- bit q of byte k after a mask's row 0 was read from o on, and after row j was joined to what stands in d
 abbrev pub firstBit : Bool → List ℕ → ℕ → ℕ → ℕ → ℕ → ℕ
-firstBit erode s o m k q = ofColumns (pickOf erode) (λ i. bit (getD s (k + (o + acrossOf erode i)) 0) q) m 0 (seedOf erode)
+firstBit erode s o m k q = ofColumns (bitPick erode) (λ i. bit (getD s (k + (o + acrossOf erode i)) 0) q) m 0 (bitSeed erode)
 
 abbrev pub nextBit : Bool → List ℕ → List ℕ → ℕ → ℕ → ℕ → ℕ → ℕ → ℕ → ℕ
-nextBit erode d s o c m j k q = ofColumns (pickOf erode) (λ i. liftedBit s c (liftOf erode j) (k + (o + acrossOf erode i)) q) m (3 * j) (bit (getD d k 0) q)
+nextBit erode d s o c m j k q = ofColumns (bitPick erode) (λ i. liftedBit s c (liftOf erode j) (k + (o + acrossOf erode i)) q) m (3 * j) (bit (getD d k 0) q)
 
 -- ---- all three
 
@@ -58,7 +58,7 @@ stepOf false x i = x - i
 pub record Rowed (erode : Bool) (s m : ℕ) (p d d′ : List ℕ) : Type 0 where
   pub len : length d′ ≡ length d
   pub at : (x y : ℕ) → 2 ≤ x → 8 ≤ y → y / 8 * s + x < s + 2 + length d
-      → bit (getD d′ (y / 8 * s + x - (s + 2)) 0) (y % 8) ≡ overBits (pickOf erode) (seedOf erode) (λ b. bitSeen s p (stepOf erode x (b % 3))
+      → bit (getD d′ (y / 8 * s + x - (s + 2)) 0) (y % 8) ≡ overBits (bitPick erode) (bitSeed erode) (λ b. bitSeen s p (stepOf erode x (b % 3))
       (stepOf erode y (b / 3))) m 9
 
 -- around n bytes of a plane in m bytes, s of them a row, a row and two bytes more are there on either side

@@ -3,7 +3,7 @@ use mathlib.Core.Path.{_≡_, refl, sym, ap, _∙_}
 use mathlib.Core.Logic.{⊎-elim}
 use mathlib.Core.Bool.{Bool, true, false, cond}
 use mathlib.Core.List.{List}
-use Prim.Native.Nat.{ℕ, _+_, _-_, _*_, _/_, _%_, _<_, _≤_}
+use Prim.Native.Nat.{ℕ, _+_, _-_, _*_, _/_, _%_, _<_, _≤_, min, max}
 use native.Mathlib.Nat.{add-mul, mul-le-mul-right}
 use native.Mathlib.Omega.{arith}
 use lib.Dec.{ltb}
@@ -16,8 +16,8 @@ use Rattle.plane.proofs.Integer.{diff-ge, diff-lt}
 use Rattle.plane.proofs.Tests.{lt-or-le}
 use Rattle.masks.specs.Mask.{maskPoints}
 use Rattle.grids.specs.Image.{dilated, eroded}
-use Rattle.grids.specs.Frame.{free, full, greater, lesser, pickOf, seedOf}
-use Rattle.grids.proofs.Stage.{greater-laws, lesser-laws}
+use Rattle.planes.specs.Bits.{bitPick, bitSeed}
+use Rattle.planes.proofs.Levels.{or-laws, and-laws}
 use Rattle.rows.specs.Cells.{bit}
 use Rattle.ranges.specs.Ranges.{Ranged}
 use Rattle.ranges.proofs.Ranges.{ranged-part}
@@ -45,26 +45,26 @@ module _ (C R m : ℕ) (p : List ℕ) (f : Point → ℕ) (h : Shows C R f p) (x
   read : (X Y : ℕ) → X < C + 4 → Y < byteRows R * 8 + 16 → bitSeen (C + 2) p X Y ≡ f (pos X -ℤ pos 2, pos Y -ℤ pos 8)
   read = h .at
 
-  stage-ahead : overBits (pickOf true) (seedOf true) (λ b. bitSeen (C + 2) p (x + b % 3) (y + b / 3)) m 9
-      ≡ eroded lesser full (maskPoints m) f (pos (x - 2), pos (y - 8))
+  stage-ahead : overBits (bitPick true) (bitSeed true) (λ b. bitSeen (C + 2) p (x + b % 3) (y + b / 3)) m 9
+      ≡ eroded min 1 (maskPoints m) f (pos (x - 2), pos (y - 8))
   unfolding _+ᵖ_
-  stage-ahead = over-ap lesser full (λ b. bitSeen (C + 2) p (x + b % 3) (y + b / 3)) (λ b. f ((pos (x - 2), pos (y - 8)) +ᵖ bitPoint b)) m 9
+  stage-ahead = over-ap min 1 (λ b. bitSeen (C + 2) p (x + b % 3) (y + b / 3)) (λ b. f ((pos (x - 2), pos (y - 8)) +ᵖ bitPoint b)) m 9
       (λ b l. read (x + b % 3) (y + b / 3) (omega arith) (omega arith)
       ∙ ap (λ (a : ℤ). f (a, pos (y + b / 3) -ℤ pos 8)) (ahead-point x (b % 3) 2 lx)
       ∙ ap (λ (a : ℤ). f (pos (x - 2 + b % 3), a)) (ahead-point y (b / 3) 8 ly))
-      ∙ sym (mask-fold lesser full lesser-laws (λ a. f ((pos (x - 2), pos (y - 8)) +ᵖ a)) m)
+      ∙ sym (mask-fold min 1 and-laws (λ a. f ((pos (x - 2), pos (y - 8)) +ᵖ a)) m)
 
-  stage-back : overBits (pickOf false) (seedOf false) (λ b. bitSeen (C + 2) p (x - b % 3) (y - b / 3)) m 9
-      ≡ dilated greater free (maskPoints m) f (pos (x - 2), pos (y - 8))
+  stage-back : overBits (bitPick false) (bitSeed false) (λ b. bitSeen (C + 2) p (x - b % 3) (y - b / 3)) m 9
+      ≡ dilated max 0 (maskPoints m) f (pos (x - 2), pos (y - 8))
   unfolding _+ᵖ_ negᵖ
-  stage-back = over-ap greater free (λ b. bitSeen (C + 2) p (x - b % 3) (y - b / 3)) (λ b. f ((pos (x - 2), pos (y - 8)) -ᵖ bitPoint b)) m 9
+  stage-back = over-ap max 0 (λ b. bitSeen (C + 2) p (x - b % 3) (y - b / 3)) (λ b. f ((pos (x - 2), pos (y - 8)) -ᵖ bitPoint b)) m 9
       (λ b l. read (x - b % 3) (y - b / 3) (omega arith) (omega arith)
       ∙ ap (λ (a : ℤ). f (a, pos (y - b / 3) -ℤ pos 8)) (back-point x (b % 3) 2 lx (omega arith))
       ∙ ap (λ (a : ℤ). f (pos (x - 2) -ℤ pos (b % 3), a)) (back-point y (b / 3) 8 ly (omega arith)))
-      ∙ sym (mask-fold greater free greater-laws (λ a. f ((pos (x - 2), pos (y - 8)) -ᵖ a)) m)
+      ∙ sym (mask-fold max 0 or-laws (λ a. f ((pos (x - 2), pos (y - 8)) -ᵖ a)) m)
 
   stage-cell : (erode : Bool) (v : ℕ)
-      → overBits (pickOf erode) (seedOf erode) (λ b. bitSeen (C + 2) p (stepOf erode x (b % 3)) (stepOf erode y (b / 3))) m 9
+      → overBits (bitPick erode) (bitSeed erode) (λ b. bitSeen (C + 2) p (stepOf erode x (b % 3)) (stepOf erode y (b / 3))) m 9
       ≡ afterStage erode v C R m f (pos x -ℤ pos 2, pos y -ℤ pos 8)
   stage-cell true v = stage-ahead ∙ sym (after-in true v C R m f x y lx hx ly hy)
   stage-cell false v = stage-back ∙ sym (after-in false v C R m f x y lx hx ly hy)
@@ -84,7 +84,7 @@ module _ (erode : Bool) (s n m : ℕ) (p d ys : List ℕ) (h : 2 ≤ s) (one : s
 
   pub part-cell : (x y : ℕ) → 2 ≤ x → 8 ≤ y → y / 8 * s + x < n * s + s
       → bitSeen s (putMid (s + 2) (n * s + s - (s + 2)) d ys) x y
-      ≡ overBits (pickOf erode) (seedOf erode) (λ b. bitSeen s p (stepOf erode x (b % 3)) (stepOf erode y (b / 3))) m 9
+      ≡ overBits (bitPick erode) (bitSeed erode) (λ b. bitSeen s p (stepOf erode x (b % 3)) (stepOf erode y (b / 3))) m 9
   unfolding bitSeen
   part-cell x y lx ly l =
       let a : 1 * s ≤ y / 8 * s = mul-le-mul-right s (omega arith) in
@@ -93,7 +93,7 @@ module _ (erode : Bool) (s n m : ℕ) (p d ys : List ℕ) (h : 2 ≤ s) (one : s
 
 module _ (erode : Bool) (v C R m : ℕ) (p mid d′ : List ℕ) (hv : v ≤ 1) (hR : 0 < R)
     (made : (x y : ℕ) → 2 ≤ x → 8 ≤ y → y / 8 * (C + 2) + x < byteRows R * (C + 2) + (C + 2)
-    → bitSeen (C + 2) mid x y ≡ overBits (pickOf erode) (seedOf erode) (λ b. bitSeen (C + 2) p (stepOf erode x (b % 3)) (stepOf erode y (b / 3))) m 9)
+    → bitSeen (C + 2) mid x y ≡ overBits (bitPick erode) (bitSeed erode) (λ b. bitSeen (C + 2) p (stepOf erode x (b % 3)) (stepOf erode y (b / 3))) m 9)
     (b : Bounded (C + 2) (byteRows R) (lastRows R) (v * 255) mid d′) (f : Point → ℕ) (h : Shows C R f p) (x y : ℕ) (lx : x < C + 4) where
   -- a byte that was bounded shows the value outside
   as-value : getD d′ (y / 8 * (C + 2) + x) 0 ≡ v * 255 → bitSeen (C + 2) d′ x y ≡ v

@@ -1,3 +1,4 @@
+pub mod Levels
 pub mod MaskBits
 pub mod Bitting
 pub mod WholeBytes

@@ -12,7 +12,7 @@ use Rattle.plane.proofs.Integer.{diff-ge, diff-lt}
 use Rattle.plane.proofs.Tests.{lt-or-le}
 use Rattle.masks.specs.Mask.{maskPoints}
 use Rattle.grids.specs.Image.{valueAt, view, cells}
-use Rattle.grids.specs.Frame.{over}
+use Rattle.planes.specs.Bits.{bitsOver}
 use Rattle.grids.proofs.Pictures.{getD-cells, length-cells}
 use Rattle.ranges.proofs.Values.{value-in, value-right, value-under, value-left, value-above}
 use Rattle.planes.specs.Planes.{afterStage}
@@ -65,7 +65,7 @@ cell-in v C R f x y u u' t t' =
 
 module _ (erode : Bool) (v C R m : ℕ) (f : Point → ℕ) (x y : ℕ) where
   after-cells : List ℕ
-  after-cells = cells C R (over erode (maskPoints m) f)
+  after-cells = cells C R (bitsOver erode (maskPoints m) f)
 
   pub after-above : y < 8 → afterStage erode v C R m f (pos x -ℤ pos 2, pos y -ℤ pos 8) ≡ v
   unfolding afterStage after-cells
@@ -80,6 +80,6 @@ module _ (erode : Bool) (v C R m : ℕ) (f : Point → ℕ) (x y : ℕ) where
   after-under u = out-under 2 8 v C R after-cells x y u
 
   pub after-in : 2 ≤ x → x < C + 2 → 8 ≤ y → y < R + 8
-      → afterStage erode v C R m f (pos x -ℤ pos 2, pos y -ℤ pos 8) ≡ over erode (maskPoints m) f (pos (x - 2), pos (y - 8))
+      → afterStage erode v C R m f (pos x -ℤ pos 2, pos y -ℤ pos 8) ≡ bitsOver erode (maskPoints m) f (pos (x - 2), pos (y - 8))
   unfolding afterStage
-  after-in u u' t t' = cell-in v C R (over erode (maskPoints m) f) x y u u' t t'
+  after-in u u' t t' = cell-in v C R (bitsOver erode (maskPoints m) f) x y u u' t t'

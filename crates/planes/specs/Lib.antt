@@ -1,3 +1,4 @@
+pub mod Bits
 pub mod MaskBits
 pub mod Bytes
 pub mod Planes

@@ -13,10 +13,10 @@ use Rattle.masks.specs.Mask.{maskPoints}
 use Rattle.grids.specs.declared.Around.{Around}
 use Rattle.grids.specs.declared.Around.the-variants.{Free, Occupied}
 use Rattle.grids.specs.Image.{view, cells}
-use Rattle.grids.specs.Frame.{over}
 use Rattle.rows.specs.Cells.{bit}
 use Rattle.ranges.specs.Ranges.{Fitted, Written}
 use Rattle.cuts.specs.Cuts.{cutOut, sidesFit}
+use Rattle.planes.specs.Bits.{bitsOver}
 
 -- rows of bytes that R rows of cells take
 abbrev pub byteRows : ℕ → ℕ
@@ -80,7 +80,7 @@ Packed v far W H C R f d r d′ = Fitted (packFits v far W H C R (length f) (len
 
 -- the picture f after the stage of the mask m, by erosion or by dilation, cut to C columns and R rows, with v outside them
 unfoldable pub afterStage : Bool → ℕ → ℕ → ℕ → ℕ → (Point → ℕ) → Point → ℕ
-afterStage erode v C R m f = view v C R (cells C R (over erode (maskPoints m) f))
+afterStage erode v C R m f = view v C R (cells C R (bitsOver erode (maskPoints m) f))
 
 -- a plane of C columns and R rows is read in n bytes and written in k
 abbrev pub stageFits : ℕ → ℕ → ℕ → ℕ → ℕ → Bool

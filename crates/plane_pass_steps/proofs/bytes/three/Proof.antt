@@ -2,7 +2,7 @@
 use mathlib.Core.Path.{_∙_, ap}
 use Prim.Native.Nat.{ℕ}
 use Rattle.rows.specs.Cells.{bit}
-use Rattle.grids.specs.Frame.{pickOf}
+use Rattle.planes.specs.Bits.{bitPick}
 use borrow.Author.Needs.{needs}
 use Rattle.plane_pass_steps.proofs.bytes.three.Statement.{statement}
 use Rattle.plane_pass_steps.proofs.bytes.three.Tie as tie
@@ -16,7 +16,7 @@ both-requires-2 c κs = search needs
 returns : tie.Need-returns
 returns c q =
     let a = c .before .before .args in
-    c .both2 .ensures q ∙ ap (λ (n : ℕ). pickOf (a .erode) n (bit (a .c) q)) (c .before .both .ensures q)
+    c .both2 .ensures q ∙ ap (λ (n : ℕ). bitPick (a .erode) n (bit (a .c) q)) (c .before .both .ensures q)
 
 pub three-spec : {M : Type 1} → statement M
 three-spec = tie.close (tie.spec both-requires both-requires-2 returns)

@@ -3,7 +3,7 @@ use mathlib.Core.Path.{_≡_, ap, _∙_}
 use Prim.Native.Nat.{ℕ, _+_, _-_, _≤_}
 use lib.ListN.{length, getD}
 use Rattle.rows.specs.Cells.{bit}
-use Rattle.grids.specs.Frame.{pickOf}
+use Rattle.planes.specs.Bits.{bitPick}
 use Rattle.planes.specs.Bytes.{Bitted}
 use Rattle.plane_pass_steps.specs.Passes.{joinedBit}
 use Rattle.plane_pass_steps.proofs.ByteBits.{spanned-three}
@@ -101,8 +101,8 @@ loop-again c =
       omega arith,
       bitted-more (c .both .result) (l .inv .1) (omega arith)
           (λ q lq. c .both .ensures q
-          ∙ ap (λ (n : ℕ). pickOf (a .erode) (bit n q) (bit (c .before .raised .result) q)) (l .inv .1 .above (l .k) (omega arith))
-          ∙ ap (λ (n : ℕ). pickOf (a .erode) (bit (getD (a .d .now) (l .k) 0) q) n)
+          ∙ ap (λ (n : ℕ). bitPick (a .erode) (bit n q) (bit (c .before .raised .result) q)) (l .inv .1 .above (l .k) (omega arith))
+          ∙ ap (λ (n : ℕ). bitPick (a .erode) (bit (getD (a .d .now) (l .k) 0) q) n)
           (c .before .raised .ensures q lq
           ∙ spanned-three (a .erode) (high .result) (low .result) (getD s (l .k + a .x + a .c) 0) (getD s (l .k + a .y + a .c) 0)
           (getD s (l .k + a .z + a .c) 0) (getD s (l .k + a .x) 0) (getD s (l .k + a .y) 0) (getD s (l .k + a .z) 0) (a .t) q (high .ensures)
