@@ -52,9 +52,10 @@ enum musq_ground {
     MUSQ_NO_CHAIN = 10,      /* no chain exists */
     MUSQ_FRAME_SIZE = 11,    /* W or H isn't 1 to 240 */
     MUSQ_FRAME_LENGTH = 12,  /* the frame's length isn't W x H */
-    MUSQ_CELL_VALUE = 13,    /* a cell is above 1 */
+    MUSQ_CELL_VALUE = 13,    /* a cell is above 2 */
     MUSQ_IMAGE_LENGTH = 14,  /* a work image has fewer than (W + 15) x (H + 15) bytes */
-    MUSQ_ROW_LENGTH = 15     /* the arriving row's length isn't W */
+    MUSQ_ROW_LENGTH = 15,    /* the arriving row's length isn't W */
+    MUSQ_NONE_MEASURED = 16  /* the frame has no measured cell */
 };
 
 /* The five calls on lists write a list to the start of out and answer its length in words; the words of out past it
@@ -96,8 +97,13 @@ int64_t musq_join(const uint32_t *a, size_t an, const uint32_t *b, size_t bn, ui
  * Grounds: 1, 2, 3, 4 (each over both lists before the next), 8, 9. */
 int64_t musq_sum(const uint32_t *a, size_t an, const uint32_t *b, size_t bn, uint32_t *out, size_t out_n);
 
-/* Frames: W columns and H rows, each 1 to 240, one byte a cell, row 0 first, 0 free and 1 occupied. A grid is the first
- * (W + 15) x (H + 15) bytes of a work image, row by row. Bytes of an image past its grid are never changed.
+/* Frames: W columns and H rows, each 1 to 240, one byte a cell, row 0 first: 0 free, 1 occupied, 2 not measured. A grid
+ * is the first (W + 15) x (H + 15) bytes of a work image, row by row, of the same three values. Bytes of an image past its
+ * grid are never changed.
+ *
+ * What cells give. Dilation gives 1 if some covered cell is 1, else 2 if some is 2, else 0; erosion gives 0 if some
+ * covered cell is 0, else 2 if some is 2, else 1. The cells covered at a point p are those at p - a for dilation and at
+ * p + a for erosion, for each point a of the plan, or of the stage.
  *
  * There are two kinds of grid, by what is around the frame in it and outside it. A call that takes a kind takes a byte:
  * 0 is the first kind, anything else the second (enum musq_around).
@@ -109,16 +115,16 @@ int64_t musq_sum(const uint32_t *a, size_t an, const uint32_t *b, size_t bn, uin
  * the second kind; dilation, opening and closing in the first. */
 enum musq_around { MUSQ_AROUND_FREE = 0, MUSQ_AROUND_OCCUPIED = 1 };
 
-/* The load: answers the number of occupied cells, and writes nothing.
+/* The load: answers the number of occupied cells, those that are 1, and writes nothing.
  * Grounds: 11, 12, 13. */
 int64_t musq_load(size_t w, size_t h, const uint8_t *frame, size_t frame_n);
 
-/* The load in ten-thousandths: answers the quotient, 0 to 10,000, and sets *remainder, so that
- *     quotient * W * H + remainder = 10,000 * occupied cells
- * with the remainder below W x H. The two together are the plain count again, so shares of several frames add up: add
- * quotient * W * H + remainder of each. A refusal leaves *remainder as it is. remainder is not null, is aligned for
- * uint32_t, and must not overlap the frame.
- * Grounds: 11, 12, 13. */
+/* The load in ten-thousandths of the measured cells: answers the quotient, 0 to 10,000, and sets *remainder, so that
+ *     quotient * m + remainder = 10,000 * occupied cells
+ * with the remainder below m, the number of cells that aren't 2. The two together are the plain count again, so shares
+ * of several frames add up: add quotient * m + remainder of each. A refusal leaves *remainder as it is. remainder is not
+ * null, is aligned for uint32_t, and must not overlap the frame.
+ * Grounds: 11, 12, 13, 16. */
 int64_t musq_share(size_t w, size_t h, const uint8_t *frame, size_t frame_n, uint32_t *remainder);
 
 /* Puts a frame into the grid of an image, of the kind that around says, and answers 0. image must not overlap frame.
@@ -132,17 +138,19 @@ int64_t musq_put(size_t w, size_t h, const uint8_t *frame, size_t frame_n, uint8
 int64_t musq_stage(uint32_t word, uint8_t erode, uint8_t around, size_t w, size_t h, const uint8_t *from, size_t from_n,
                    uint8_t *to, size_t to_n);
 
-/* The four operations. X is the set of points whose cells are occupied, and A the points of the plan: its offset added
- * to the sum of its stages. Cells outside the frame are occupied for erosion, so that a carrier that runs off the edge
- * stays there, and free for dilation, and for opening and closing in both their halves.
- *   musq_dilate: all sums of a point of X and a point of A
- *   musq_erode:  the points p for which p + a lies in X for every a of A
+/* The four operations, by the points of the plan: its offset added to the sum of its stages. Cells outside the frame are
+ * occupied for erosion, so that a carrier that runs off the edge stays there, and free for dilation, and for opening and
+ * closing in both their halves.
+ *   musq_dilate: at each point of the plane what dilation gives of the cells that it covers
+ *   musq_erode:  what erosion gives
  *   musq_open:   erosion, and then dilation of what that gives
  *   musq_close:  dilation, and then erosion of what that gives
- * A cell of the result is 1 if its point lies in that set, else 0; nothing is cut off before the end. first and second
- * are two work images, each of (W + 15) x (H + 15) bytes or more, whatever they hold. They must not overlap each other,
- * nor the plan, nor the frame. Each call answers the number of stages that it ran: n for dilation and erosion, 2n for
- * opening and closing, 0 included. The result is then had from musq_part; other bytes of the two grids may be anything.
+ * Nothing is cut off before the end. Where no cell is 2 dilation is all sums of a point of X and a point of A, and erosion
+ * the points p for which p + a lies in X for every a of A, X being the points whose cells are occupied and A the plan's.
+ * first and second are two work images, each of (W + 15) x (H + 15) bytes or more, whatever they hold. They must not
+ * overlap each other, nor the plan, nor the frame. Each call answers the number of stages that it ran: n for dilation and
+ * erosion, 2n for opening and closing, 0 included. The result is then had from musq_part; other bytes of the two grids
+ * may be anything.
  * Grounds: 1, 2, 3, 5, 6, 7, 8, 11, 12, 13, 14 (over both images). */
 int64_t musq_dilate(const uint32_t *plan, size_t n, size_t w, size_t h, const uint8_t *frame, size_t frame_n, uint8_t *first,
                     size_t first_n, uint8_t *second, size_t second_n);

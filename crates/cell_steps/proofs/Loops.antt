@@ -1,18 +1,20 @@
--- The loops over cells: one more and none left; and that the greatest cell decides ground 13 and the counts make the load.
+-- The loops over cells: one more and none left; and that the greatest cell decides ground 13 and the counts make the load and the measured cells.
 use mathlib.Core.Path.{_≡_, refl, sym, _∙_, ap}
-use mathlib.Core.Bool.{Bool, true, false, cond, _||_}
+use mathlib.Core.Bool.{Bool, true, false, cond, not, _||_}
 use mathlib.Core.List.{List, [], _∷_}
 use Prim.Native.Nat.{ℕ, zero, suc, _+_, _-_, _≤_, _<_, max, min}
 use native.Mathlib.Omega.{arith}
 use native.Mathlib.Numerals.{add-one}
 use native.Mathlib.Decide.{decLe}
-use borrow.Author.Tests.{ltb-true, ltb-false, lt-ltb, le-ltb}
+use borrow.Author.Tests.{ltb-true, ltb-false, lt-ltb, le-ltb, eqb-true}
 use lib.Dec.{ltb, eqb}
 use lib.ListN.{length, getD, take, drop, drop-of-length-le}
 use lib.Seq.{drop-cons, drop-drop, take-all, take-length}
 use Rattle.plane.specs.Lists.{keep}
-use Rattle.grids.specs.Frame.{full, highest, badCell, load}
-use Rattle.cell_steps.specs.Leaves.{greatestOf, countOf, countsOf}
+use Rattle.plane.proofs.Member.{length-keep}
+use Rattle.grids.specs.Frame.{full, unmeasured, highest, badCell, load}
+use Rattle.grids.specs.Share.{measured}
+use Rattle.cell_steps.specs.Leaves.{greatestOf, countOf, countsOf, timesOf, Counted}
 
 -- ---- the greatest cell
 
@@ -31,6 +33,11 @@ greatest-none l i v h = ap (λ s. max v (greatestOf s)) (drop-of-length-le l h) 
     zero v = omega arith
 
 -- ground 13 by the greatest cell
+pub greatest-at : (f : List ℕ) (i : ℕ) → getD f i 0 ≤ greatestOf f
+greatest-at [] i = omega arith
+greatest-at (c ∷ f) zero = omega arith
+greatest-at (c ∷ f) (suc i) = let r = greatest-at f i in omega arith
+
 pub greatest-bad : (f : List ℕ) → ltb highest (greatestOf f) ≡ badCell f
 greatest-bad [] = refl
 greatest-bad (v ∷ vs) = above v (greatestOf vs) ∙ ap (λ b. ltb highest v || b) (greatest-bad vs)
@@ -46,42 +53,79 @@ greatest-bad (v ∷ vs) = above v (greatestOf vs) ∙ ap (λ b. ltb highest v ||
             let m = ltb-false highest b f in
             le-ltb highest (max a b) (omega arith)
 
--- ---- the load
+-- ---- counts
 
-pub counts-one : (l : List ℕ) (i : ℕ) → i < length l → countsOf (drop i l) ≡ countOf (getD l i 0) + countsOf (drop (i + 1) l)
-counts-one l i h = ap countsOf (drop-cons l i 0 h) ∙ ap (λ n. countOf (getD l i 0) + countsOf (drop n l)) (sym (add-one i))
+pub counts-one : (v : ℕ) (l : List ℕ) (i : ℕ) → i < length l → countsOf v (drop i l) ≡ countOf v (getD l i 0) + countsOf v (drop (i + 1) l)
+counts-one v l i h = ap (countsOf v) (drop-cons l i 0 h) ∙ ap (λ n. countOf v (getD l i 0) + countsOf v (drop n l)) (sym (add-one i))
 
-pub counts-none : (l : List ℕ) (i : ℕ) → length l ≤ i → countsOf (drop i l) ≡ 0
-counts-none l i h = ap countsOf (drop-of-length-le l h)
+pub counts-none : (v : ℕ) (l : List ℕ) (i : ℕ) → length l ≤ i → countsOf v (drop i l) ≡ 0
+counts-none v l i h = ap (countsOf v) (drop-of-length-le l h)
 
 -- a part of the cells from k on, and those behind it
-pub counts-part : (l : List ℕ) (k e : ℕ) → k ≤ e → countsOf (drop k l) ≡ countsOf (take (e - k) (drop k l)) + countsOf (drop e l)
-counts-part l k e h =
+pub counts-part : (v : ℕ) (l : List ℕ) (k e : ℕ) → k ≤ e → countsOf v (drop k l) ≡ countsOf v (take (e - k) (drop k l)) + countsOf v (drop e l)
+counts-part v l k e h =
     let i : k + (e - k) ≡ e = omega arith in
-    split (e - k) (drop k l) ∙ ap (λ r. countsOf (take (e - k) (drop k l)) + countsOf r) (drop-drop (e - k) k l ∙ ap (λ n. drop n l) i)
+    split (e - k) (drop k l) ∙ ap (λ r. countsOf v (take (e - k) (drop k l)) + countsOf v r) (drop-drop (e - k) k l ∙ ap (λ n. drop n l) i)
   where
-    split : (n : ℕ) (l : List ℕ) → countsOf l ≡ countsOf (take n l) + countsOf (drop n l)
+    split : (n : ℕ) (l : List ℕ) → countsOf v l ≡ countsOf v (take n l) + countsOf v (drop n l)
     split zero l = omega arith
     split (suc n) [] = refl
-    split (suc n) (v ∷ vs) = let i = split n vs in omega arith
+    split (suc n) (c ∷ cs) = let i = split n cs in omega arith
 
 -- each cell counts at most 1
-pub counts-most : (l : List ℕ) → countsOf l ≤ length l
-counts-most [] = omega arith
-counts-most (v ∷ vs) = let i = counts-most vs in let o = one (eqb v full) in omega arith
+pub counts-most : (v : ℕ) (l : List ℕ) → countsOf v l ≤ length l
+counts-most v [] = omega arith
+counts-most v (c ∷ cs) = let i = counts-most v cs in let o = one (eqb c v) in omega arith
   where
     one : (b : Bool) → cond b 1 0 ≤ 1
     one true = omega arith
     one false = omega arith
 
-pub counts-load : (f : List ℕ) → countsOf f ≡ load f
-unfolding load
-counts-load [] = refl
-counts-load (v ∷ vs) = ap (λ n. countOf v + n) (counts-load vs) ∙ go (eqb v full) (keep (λ u. eqb u full) vs)
+pub counts-times : (v : ℕ) (f : List ℕ) → countsOf v f ≡ timesOf v f
+unfolding timesOf
+counts-times v [] = refl
+counts-times v (c ∷ cs) = ap (λ n. countOf v c + n) (counts-times v cs) ∙ go (eqb c v) (keep (λ u. eqb u v) cs)
   where
-    go : (b : Bool) (r : List ℕ) → cond b 1 0 + length r ≡ length (cond b (v ∷ r) r)
+    go : (b : Bool) (r : List ℕ) → cond b 1 0 + length r ≡ length (cond b (c ∷ r) r)
     go true r = omega arith
     go false r = omega arith
+
+-- no more cells are v than there are
+times-most : (v : ℕ) (f : List ℕ) → timesOf v f ≤ length f
+unfolding timesOf
+times-most v f = length-keep (λ u. eqb u v) f
+
+pub counted-most : {v : ℕ} {f : List ℕ} {r : ℕ} → Counted v f r → length f ≤ 57600 → r ≤ length f
+counted-most {v} {f} c l = let e = c .few (omega arith) in omega (arith, times-most v f)
+
+-- the load is the number of cells that are 1
+pub times-load : (f : List ℕ) → timesOf full f ≡ load f
+unfolding timesOf load
+times-load f = refl
+
+-- those that are 2 and those that were measured are all
+pub times-measured : (f : List ℕ) → timesOf unmeasured f + measured f ≡ length f
+unfolding timesOf measured
+times-measured [] = refl
+times-measured (c ∷ cs) = go (eqb c unmeasured) (times-measured cs)
+  where
+    go : (b : Bool) → timesOf unmeasured cs + measured cs ≡ length cs
+        → length (cond b (c ∷ keep (λ u. eqb u unmeasured) cs) (keep (λ u. eqb u unmeasured) cs))
+        + length (cond (not b) (c ∷ keep (λ u. not (eqb u unmeasured)) cs) (keep (λ u. not (eqb u unmeasured)) cs))
+        ≡ length (c ∷ cs)
+    go true e = omega arith
+    go false e = omega arith
+
+-- where no cell is above 1 all were measured
+pub all-measured : (f : List ℕ) → greatestOf f ≤ 1 → measured f ≡ length f
+unfolding measured
+all-measured [] h = refl
+all-measured (c ∷ cs) h = go (eqb c unmeasured) refl (all-measured cs (omega arith))
+  where
+    go : (b : Bool) → eqb c unmeasured ≡ b → length (keep (λ u. not (eqb u unmeasured)) cs) ≡ length cs
+        → length (cond (not b) (c ∷ keep (λ u. not (eqb u unmeasured)) cs) (keep (λ u. not (eqb u unmeasured)) cs)) ≡ length (c ∷ cs)
+    go true q e = let n = eqb-true c unmeasured q in absurd (omega arith)
+    go false q e = omega arith
 
 -- ---- a part of a list
 

@@ -23,7 +23,7 @@ use Rattle.rolling.proofs.Ends.{next-row}
 use Rattle.rolling.proofs.Reach.{plan-below}
 use Rattle.rolling.proofs.Rolls.{Accepted, call-accepted, step, rolling, shape-rolling}
 use Rattle.rolling.proofs.Present.{live-good, shows}
-use Rattle.claim.specs.Shows.{Farther, RowShows}
+use Rattle.claim.specs.Frames.{Farther, RowShows}
 use Rattle.claim.specs.Waterfall.{Waterfall}
 
 module _ (plan : List ℕ) (W H : ℕ) (row live kept : List ℕ) (z : firstOf (arrivalTests plan W H row live kept) ≡ 0) where

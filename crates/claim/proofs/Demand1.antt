@@ -14,7 +14,7 @@ use Rattle.shapes.specs.Calls.{ListWritten, movedPoints, movingTests, joinedPoi
 use Rattle.shapes.specs.Plan.{planPoints}
 use Rattle.planning.specs.Planning.{planningTests, Planned, PlanWritten, Unplannable}
 use Rattle.grids.specs.Frame.{frameTests, load}
-use Rattle.grids.specs.Share.{told}
+use Rattle.grids.specs.Share.{told, shareTests}
 use Rattle.grids.specs.Grid.{putTests, stageTests, GridWritten, put, once}
 use Rattle.cleaning.specs.Cleaning.{operationTests, Ran}
 use Rattle.rolling.specs.Rolling.{arrivalTests, Rolled}
@@ -59,7 +59,7 @@ demand1 = record {
   staging = λ erode k w W H g i r i′ a. first (stageTests w W H g i) r (i′ ≡ i) (GridWritten W H (once erode k W H (stageMask w) g) i r i′) a
       (λ q. ground (q .answer));
   counting = λ W H f r a. first (frameTests W H f) r (Unit {0}) (stated r ≡ result (load f)) a (λ e. ground e) .0;
-  sharing = λ W H f a p. promised-number (frameTests W H f) (told a .0) (λ _ e. ap (λ t. t .0) e) (λ w. w .answer) p .0;
+  sharing = λ W H f a p. promised-number (shareTests W H f) (told a .0) (λ _ e. ap (λ t. t .0) e) (λ w. w .answer) p .0;
   cleaning = λ op plan W H f i j r i′ j′ a. first (operationTests plan W H f i j) r ((i′ ≡ i) × (j′ ≡ j)) (Ran op plan W H f i j r i′ j′) a
       (λ w. ground (w .answer));
   arriving = λ plan W H row live kept r live′ kept′ a. first (arrivalTests plan W H row live kept) r ((live′ ≡ live) × (kept′ ≡ kept))

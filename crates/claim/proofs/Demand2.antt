@@ -28,11 +28,13 @@ use Rattle.shapes.proofs.Listed.{listed-points, listed-same}
 use Rattle.shapes.proofs.Written.{plan-points}
 use Rattle.planning.specs.Planning.{ShapeSet}
 use Rattle.cleaning.specs.Cleaning.{Cleaned, operationTests, part}
-use Rattle.cleaning.specs.Operation.{Direct}
+use Rattle.cleaning.specs.Operation.{Made, Direct, asRead}
+use Rattle.cleaning.specs.declared.Operation.the-variants.{Dilation, Erosion, Opening, Closing}
+use Rattle.cleaning.proofs.Fixed.{direct-size, direct-cell}
 use Rattle.claim.proofs.Arriving.{row-shows}
-use Rattle.claim.proofs.Outside.{direct-shows}
 use Rattle.claim.proofs.Positions.{position-shown}
 use Rattle.claim.specs.Demand2.{Demand2}
+use Rattle.claim.specs.Frames.{OperationGives, PartIs}
 use Rattle.claim.specs.Shows.{ListShows}
 use Rattle.claim.proofs.Cells.{put-shown, stage-shown, load-counted, share-shown}
 
@@ -76,13 +78,20 @@ part-direct op plan W H f i j s i′ j′ c e =
     let ran = c .done e in
     subst (λ a. Direct op W H f (In (planPoints plan)) (part (a .1) W H i′ j′)) (sym (ran .answer)) (ran .direct)
 
--- an accepted frame has all its cells
-frame-long : (plan : List ℕ) (W H : ℕ) (f i j : List ℕ) → firstOf (operationTests plan W H f i j) ≡ 0 → W * H ≤ length f
-unfolding planTests workTests
-frame-long plan W H f i j e =
-    let c = clear-last (planTests plan) (workTests W H f i j) (clear (operationTests plan W H f i j) tt e) in
-    let l = eqb→eq (length f) (W * H) (un-not (eqb (length f) (W * H)) (c .1 .0)) in
-    omega arith
+-- what the operation makes of the frame, as the demand has it
+given : (op : Operation) (W H : ℕ) (f : List ℕ) (A : PointSet) (g : Point → ℕ) → Made op A (asRead op W H f) g → OperationGives op W H f A g
+given Dilation W H f A g m = m
+given Erosion W H f A g m = m
+given Opening W H f A g m = m
+given Closing W H f A g m = m
+
+part-is : (op : Operation) (W H : ℕ) (f : List ℕ) (A : PointSet) (r : List ℕ) → Direct op W H f A r → PartIs op W H f A r
+part-is op W H f A r D = record {
+  picture = D .picture;
+  gives = given op W H f A (D .picture) (D .made);
+  size = direct-size op W H f A r D;
+  cell = direct-cell op W H f A r D;
+}
 
 pub demand2 : Demand2
 demand2 = record {
@@ -92,7 +101,7 @@ demand2 = record {
   turning = λ ws out r out′ a e. shown (planPoints ws) out out′ r (turned-fits ws out e) (plan-points ws) (a .done e);
   positioning = position-shown;
   cleaning = λ op plan W H f i j s i′ j′ a e.
-      direct-shows W H f (frame-long plan W H f i j e) op (In (planPoints plan)) (part (stated s .1) W H i′ j′) (part-direct op plan W H f i j s i′ j′ a e);
+      part-is op W H f (In (planPoints plan)) (part (stated s .1) W H i′ j′) (part-direct op plan W H f i j s i′ j′ a e);
   putting = put-shown;
   staging = stage-shown;
   counting = load-counted;

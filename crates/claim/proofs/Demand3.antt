@@ -22,7 +22,7 @@ use Rattle.planning.proofs.Decided.{chain-of, accepted, written-words}
 use Rattle.grids.specs.Grid.{workTests}
 use Rattle.cleaning.specs.Cleaning.{part, operationTests, stagesRun, Cleaned}
 use Rattle.cleaning.specs.Operation.{inTurn}
-use Rattle.cleaning.proofs.Turn.{same-direct}
+use Rattle.cleaning.proofs.Fixed.{same-direct}
 use Rattle.claim.specs.Demand3.{Demand3, Agrees, Served, Decided}
 use Rattle.claim.proofs.Demand2.{part-direct}
 

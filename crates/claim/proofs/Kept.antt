@@ -24,7 +24,7 @@ use Rattle.planning.specs.Planning.{ShapeSet, planningTests, Planned, Unplannab
 use Rattle.planning.proofs.Decided.{can-plan, can-refuse}
 use Rattle.grids.specs.Frame.{frameTests, load}
 use Rattle.grids.specs.Grid.{putTests, stageTests, put, once, written, GridWritten, workTests}
-use Rattle.grids.specs.Share.{told, TenThousandths}
+use Rattle.grids.specs.Share.{told, measured, shareTests, TenThousandths}
 use Rattle.grids.specs.declared.Share.the-variants as shares
 use Rattle.grids.specs.declared.Share.the-variants.{Exact}
 use Rattle.grids.proofs.Shares.{can-share}
@@ -70,7 +70,7 @@ cleaning-kept op plan W H f i j =
     (q .0, q .1 .0, q .1 .1, q .2)
 
 pub kept : Kept
-unfolding shapeTests planTests frameTests putTests stageTests
+unfolding shapeTests planTests frameTests shareTests putTests stageTests
 kept = record {
   moving = λ ws d out. list-kept (movingTests ws d out) (movedPoints ws d) out tt;
   joining = λ ws vs out. list-kept (joiningTests ws vs out) (joinedPoints ws vs) out tt;
@@ -82,8 +82,8 @@ kept = record {
       let q = can-keep {S = Unit {0}} (frameTests W H f) tt tt (λ _. Unit {0}) (λ r _. stated r ≡ result (load f)) tt (λ _. (Done (load f), tt, refl)) in
       (q .0, q .2);
   sharing = λ W H f.
-      let q = can-promise {S = Unit {0}} (λ a k. told a ≡ (k, 0, 0)) shares.Refused (λ _. refl) (frameTests W H f) tt tt (λ _. Unit {0})
-      (λ a _. TenThousandths W H f a) tt (λ z. (Exact (10000 * load f / (W * H)) (10000 * load f % (W * H)), tt, can-share W H f z)) in
+      let q = can-promise {S = Unit {0}} (λ a k. told a ≡ (k, 0, 0)) shares.Refused (λ _. refl) (shareTests W H f) tt tt (λ _. Unit {0})
+      (λ a _. TenThousandths f a) tt (λ z. (Exact (10000 * load f / measured f) (10000 * load f % measured f), tt, can-share W H f z)) in
       (q .0, q .2);
   putting = λ k W H f i. grid-kept (putTests W H f i) W H (put k W H f) i tt;
   staging = λ erode k w W H g i. grid-kept (stageTests w W H g i) W H (once erode k W H (stageMask w) g) i tt;

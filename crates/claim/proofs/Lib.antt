@@ -4,6 +4,7 @@ pub mod Cells
 pub mod Arriving
 pub mod Outside
 pub mod Demand2
+pub mod Minkowski
 pub mod Demand3
 pub mod RoundTrip
 pub mod Kept
@@ -11,3 +12,4 @@ pub mod Claimed
 pub mod Measured
 pub mod Examples
 pub mod FrameExamples
+pub mod MinkowskiExamples

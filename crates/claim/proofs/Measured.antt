@@ -37,7 +37,7 @@ use Rattle.grids.specs.Image.{cells, valueAt}
 use Rattle.cleaning.specs.Cleaning.{stagesRun}
 use Rattle.cleaning.specs.Operation.{inTurn, lastGrid, Direct}
 use Rattle.cleaning.proofs.Kept.{can-clean}
-use Rattle.cleaning.proofs.Plans.{binary}
+use Rattle.cleaning.proofs.Plans.{passing}
 use Rattle.cleaning.proofs.Turn.{turn-direct}
 use Rattle.claim.specs.Measured.{PlannedAs, RefusedTen, CleanedAs, Measured, fourWords, fourInput, fourOutput, threeWords, twoWords}
 use Rattle.claim.specs.Measured.{rightWords, eightWords}
@@ -100,7 +100,7 @@ cleans-as op ws d ms f n r e P b c k t =
     let W = length f in
     record {
       plans = plans-as ws d ms e P;
-      direct = subst (Direct op W 1 f (ShapeSet ws)) t (turn-direct op W 1 f d ms (ShapeSet ws) (Q .stages) (sum-small ws S d ms Q) (binary f c) (Q .sum));
+      direct = subst (Direct op W 1 f (ShapeSet ws)) t (turn-direct op W 1 f d ms (ShapeSet ws) (Q .stages) (sum-small ws S d ms Q) (passing f c) (Q .sum));
       possible = λ i j h l. can-clean op (planWords d ms) W 1 f i j (runs ws S d ms Q W 1 f i j (row-accepted f i j b c h l));
       answer = λ i j h l s i′ j′ q. agrees ws S d ms Q op W 1 f i j s i′ j′ (row-accepted f i j b c h l) q .answer ∙ ap result k;
       handed = λ i j h l s i′ j′ q. agrees ws S d ms Q op W 1 f i j s i′ j′ (row-accepted f i j b c h l) q .turns ∙ t;

@@ -18,12 +18,12 @@ use Rattle.grids.specs.Frame.{free, full, frame, occupied}
 use Rattle.grids.specs.Image.{valueAt}
 use Rattle.cleaning.specs.declared.Operation.{Operation}
 use Rattle.cleaning.specs.declared.Operation.the-variants.{Dilation, Erosion, Opening, Closing}
-use Rattle.cleaning.specs.Operation.{made, asRead, Direct}
-use Rattle.cleaning.proofs.Fixed.{says-same}
-use Rattle.claim.specs.Shows.{framePoints, withOutside, operationMade, PartShows}
+use Rattle.cleaning.specs.Operation.{asRead}
+use Rattle.cleaning.specs.Sets.{made, Says, DirectSet}
+use Rattle.claim.specs.Minkowski.{framePoints, withOutside, operationMade, PartShows}
 
 -- a byte that is there is read whatever is read past the end
-read-same : (l : List ℕ) (i u v : ℕ) → i < length l → getD l i u ≡ getD l i v
+pub read-same : (l : List ℕ) (i u v : ℕ) → i < length l → getD l i u ≡ getD l i v
 read-same [] i u v h = absurd (not-suc-le-zero h)
 read-same (a ∷ l) zero u v h = refl
 read-same (a ∷ l) (suc i) u v h = read-same l i u v (le-of-suc-le-suc h)
@@ -81,6 +81,11 @@ module _ (W H : ℕ) (f : List ℕ) (fits : W * H ≤ length f) where
       go (pos x) (negsuc y) = (λ h. inr (λ a b h k q. apart (ap (λ z. z .1) q)), λ h. refl)
       go (negsuc x) y = (λ h. inr (λ a b h k q. apart (ap (λ z. z .0) q)), λ h. refl)
 
+  -- what a cell says of P it says of what is the same as P
+  says-same : {P Q : Type 0} (v : ℕ) → P ↔ Q → Says v P → Says v Q
+  says-same v q (inl h) = inl (h .0, q .0 (h .1))
+  says-same v q (inr h) = inr (h .0, λ z. h .1 (q .1 z))
+
   -- so each operation makes what demand 2 says of the frame
   made-is : (op : Operation) (A : PointSet) → made op (occupied (asRead op W H f)) A ≐ operationMade op W H f A
   made-is Dilation A = ≐-refl (dilation (framePoints W H f) A)
@@ -88,6 +93,6 @@ module _ (W H : ℕ) (f : List ℕ) (fits : W * H ≤ length f) where
   made-is Opening A = ≐-refl (opening (framePoints W H f) A)
   made-is Closing A = ≐-refl (closing (framePoints W H f) A)
 
-  pub direct-shows : (op : Operation) (A : PointSet) (r : List ℕ) → Direct op W H f A r → PartShows W H (operationMade op W H f A) r
+  pub direct-shows : (op : Operation) (A : PointSet) (r : List ℕ) → DirectSet op W H f A r → PartShows W H (operationMade op W H f A) r
   direct-shows op A r d =
       record { size = d .size; cell = λ x y h k. says-same (getD r (y * W + x) 0) (made-is op A (pos x, pos y)) (d .cell x y h k) }

@@ -14,7 +14,7 @@ use Rattle.shapes.specs.Calls.{Moved, movingTests, Joined, joiningTests, Summed
 use Rattle.planning.specs.Planning.{ShapeSet, member, planningTests, Planned}
 use Rattle.grids.specs.Frame.{frameTests, LoadCounted}
 use Rattle.grids.specs.Grid.{putTests, FramePut, stageTests, Staged}
-use Rattle.grids.specs.Share.{told, Shared}
+use Rattle.grids.specs.Share.{told, shareTests, Shared}
 use Rattle.grids.specs.declared.Around.{Around}
 use Rattle.grids.specs.declared.Share.{Share}
 use Rattle.cleaning.specs.Cleaning.{operationTests, Cleaned}
@@ -44,7 +44,7 @@ pub record Demand1 : Type 0 where
   -- normal position meets no ground and is lent nothing: every argument is answered by a mask
   pub positioning : (m n : ℕ) → NormalPosition (m % 512) n → n < 512
   pub counting : (W H : ℕ) (f : List ℕ) (r : Answer) → LoadCounted W H f r → stated r .0 ≡ firstOf (frameTests W H f)
-  pub sharing : (W H : ℕ) (f : List ℕ) (a : Share) → Shared W H f a → told a .0 ≡ firstOf (frameTests W H f)
+  pub sharing : (W H : ℕ) (f : List ℕ) (a : Share) → Shared W H f a → told a .0 ≡ firstOf (shareTests W H f)
   pub putting : (k : Around) (W H : ℕ) (f i : List ℕ) (r : Answer) (i′ : List ℕ) → FramePut k W H f i r i′ → First (putTests W H f i) r (i′ ≡ i)
   pub staging : (erode : Bool) (k : Around) (w W H : ℕ) (g i : List ℕ) (r : Answer) (i′ : List ℕ) → Staged erode k w W H g i r i′
       → First (stageTests w W H g i) r (i′ ≡ i)

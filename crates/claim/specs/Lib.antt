@@ -1,5 +1,7 @@
 pub mod Demand1
 pub mod Shows
+pub mod Frames
+pub mod Minkowski
 pub mod Demand2
 pub mod Demand3
 pub mod RoundTrip

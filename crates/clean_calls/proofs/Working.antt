@@ -1,49 +1,47 @@
 -- An operation that no ground refuses: from the frame that is packed to the part that will be handed back.
 use mathlib.Core.Path.{_≡_, refl, sym, _∙_, ap, subst}
-use mathlib.Core.Bool.{Bool, false, not}
+use mathlib.Core.Bool.{Bool, true, false, cond}
 use mathlib.Core.List.{List, _++_}
 use Prim.Native.Nat.{ℕ, _+_, _*_, _%_, _≤_}
 use native.Mathlib.Omega.{arith}
-use lib.Dec.{T, eqb, nltb→le}
-use lib.IntN.{pos}
+use lib.Dec.{eqb, ltb, nltb→le}
 use lib.ListN.{length, getD, drop}
-use borrow.Author.Tests.{eqb-true}
+use borrow.Author.Tests.{eqb-true, ltb-false}
 use Rattle.plane.specs.Lists.{In}
-use Rattle.plane.specs.Point.{Point, _-ᵖ_}
 use Rattle.plane.proofs.Tests.{T-false, T-true, not-or, un-not}
 use Rattle.words.specs.Ground.{firstOf, stated, result}
 use Rattle.words.specs.Word.{placeX, placeY}
 use Rattle.words.specs.declared.Answer.{Answer}
 use Rattle.words.proofs.Refusals.{Clear, clear, unclear, clear-first, clear-last}
 use Rattle.shapes.specs.Plan.{planMasks, planTests, planOffset, planPoints}
-use Rattle.grids.specs.Image.{view}
-use Rattle.grids.specs.Frame.{badSize, badCell, gridSize, shortImage}
+use Rattle.grids.specs.Frame.{highest, badSize, wrongLength, gridSize, shortImage}
 use Rattle.grids.specs.Grid.{outsideOf, gridBytes, put, workTests}
-use Rattle.grids.specs.declared.Around.{Around}
-use Rattle.grids.specs.declared.Around.the-variants.{Free, Occupied}
-use Rattle.grids.proofs.Putting.{put-bytes}
-use Rattle.grids.proofs.Stage.{outside-low}
-use Rattle.frame_grounds.proofs.Sides.{sides}
-use Rattle.planes.specs.Planes.{Shows, lowBits, placeOf, farOf, packFits, FramePacked, Packed}
-use Rattle.planes.proofs.OnGrids.{low-bits, far-corner, plane-fits, grid-pack, shown-cut}
+use Rattle.grids.proofs.Values.{Upto}
+use Rattle.frame_grounds.specs.Looking.{greatestCell}
+use Rattle.frame_grounds.proofs.Looked.{cell-below}
+use Rattle.planes.specs.Bits.{level}
+use Rattle.planes.specs.Planes.{Shows, secondAt}
+use Rattle.planes.proofs.OnGrids.{shown-cut}
 use Rattle.cleaning.specs.declared.Operation.{Operation}
 use Rattle.cleaning.specs.Operation.{Direct, around, lastGrid, inTurn}
 use Rattle.cleaning.specs.Cleaning.{stagesRun, resultImage, part, operationTests, Cleaned}
 use Rattle.cleaning.proofs.Kept.{turn-length}
-use Rattle.cleaning.proofs.Plans.{accepted-direct}
+use Rattle.cleaning.proofs.Plans.{passing, accepted-direct}
 use Rattle.cleaning.proofs.Starts.{over-length, over-past, frame-in-grid, hand, hand-start}
-use Rattle.turn_steps.specs.Turns.{standingImage, Shown, Past, Ended}
+use Rattle.cleaning.proofs.Upto.{last-upto}
+use Rattle.turn_steps.specs.Turns.{standingImage}
+use Rattle.turn_steps.proofs.Alternating.{either, same-either, same-of}
 use Rattle.result_steps.specs.Cutting.{distance, Room, CutAway}
+use Rattle.result_steps.specs.Levels.{LevelsEnded}
 use Rattle.result_steps.specs.Running.{Runnable}
-use Rattle.plan_grounds.proofs.Accepted.{plan-length, place-small}
-use Rattle.turn_steps.proofs.Alternating.{either, kept-past, past-same, past-then, room-past, same-either, same-of}
 use Rattle.result_steps.proofs.Reading.{cut-turn}
+use Rattle.plan_grounds.proofs.Accepted.{plan-length, place-small}
+use Rattle.clean_calls.specs.Packing.{Packable, LevelsPacked}
+use Rattle.grids.proofs.Putting.{put-upto}
 
--- a frame that is packed for one operation
-pub by-kind : (op o : Operation) → op ≡ o → {W H : ℕ} {f d : List ℕ} {r : Bool} {d′ : List ℕ}
-    → Packed (outsideOf (around o)) (farOf (around o)) W H (W + 15) (H + 15) f d r d′
-    → Packed (outsideOf (around op)) (farOf (around op)) W H (W + 15) (H + 15) f d r d′
-by-kind op o e {W} {H} {f} {d} {r} {d′} p = subst (λ a. Packed (outsideOf (around a)) (farOf (around a)) W H (W + 15) (H + 15) f d r d′) (sym e) p
+drop-either : (b : Bool) (o : ℕ) (i j : List ℕ) → drop o (cond b i j) ≡ cond b (drop o i) (drop o j)
+drop-either true o i j = refl
+drop-either false o i j = refl
 
 module _ (plan : List ℕ) (W H : ℕ) (f i j : List ℕ) (z : firstOf (operationTests plan W H f i j) ≡ 0) where
   all-clear : Clear (operationTests plan W H f i j)
@@ -67,84 +65,78 @@ module _ (plan : List ℕ) (W H : ℕ) (f i j : List ℕ) (z : firstOf (operatio
       let u = not-or (shortImage W H i) (shortImage W H j) .0 (work-clear .1 .1 .1 .0) in
       (nltb→le (length i) (gridSize W H) (u .0), nltb→le (length j) (gridSize W H) (u .1))
 
-  -- the frame has all its cells, and none is above 1
+  -- the frame has all its cells, and none is above 2
+  right-length : wrongLength W H f ≡ false
+  unfolding workTests
+  right-length = T-false (wrongLength W H f) (work-clear .1 .0)
+
   cells-all : W * H ≤ length f
   unfolding workTests
   cells-all = let e = eqb-true (length f) (W * H) (T-true (eqb (length f) (W * H)) (un-not (eqb (length f) (W * H)) (work-clear .1 .0))) in omega arith
 
-  cells-clean : T (not (badCell f))
+  cells-upto : (n : ℕ) → getD f n 0 ≤ highest
   unfolding workTests
-  cells-clean = work-clear .1 .1 .0
+  cells-upto = passing f (work-clear .1 .1 .0)
 
-  pub sides-small : (W ≤ 240) × (H ≤ 240)
-  sides-small = sides W H sides-pass
-
-  -- so the frame goes into the plane in the first image, in either kind of grid
-  pub packs : (k : Around) → T (packFits (outsideOf k) (farOf k) W H (W + 15) (H + 15) (length f) (length i))
-  packs k =
-      let l = place-low k in
-      grid-pack W H (sides-small .0) (sides-small .1) (outsideOf k) (farOf k) W H (length f) (length i) (outside-low k) (omega arith) (omega arith) cells-all
-      (omega (arith, room .0, plane-fits W H))
-    where
-      place-low : (k : Around) → placeOf (farOf k) ≤ 15
-      place-low Free = omega arith
-      place-low Occupied = omega arith
-
-  pub has-room : Room W H i j
+  has-room : Room W H i j
   has-room = record { sides = sides-pass; first = room .0; second = room .1 }
 
-  -- the frame is packed: the plane shows the grid that the frame is put into
-  module _ (k : Around) {i₁ : List ℕ} (p : FramePacked (outsideOf k) (farOf k) W H (W + 15) (H + 15) f i i₁) where
-    first-past : Past W H i i₁
-    first-past = kept-past W H (p .kept)
+  -- so it is packed: into one plane where its greatest number is not above 1
+  pub packable : {g : ℕ} → g ≡ greatestCell W H f → Packable (ltb 1 g) W H f i
+  packable {g} e = record {
+    sides = sides-pass;
+    cells = cells-all;
+    upto = cells-upto;
+    alone = λ b n. let l = ltb-false 1 g b in omega (arith, e, cell-below W H f sides-pass right-length n);
+    room = room .0;
+  }
 
-    packed-room : Room W H i₁ j
-    packed-room = room-past has-room first-past past-same
-
+  -- the planes show both levels of the grid that the frame is put into
+  module _ (two : Bool) (op : Operation) {i₁ : List ℕ} (p : LevelsPacked two (around op) W H f i i₁) where
     -- so the stages can be run
     pub runs : Runnable plan W H i₁ j
-    runs = let s = place-small plan plan-accepted in record { words = plan-length plan plan-accepted; across = s .0; down = s .1; room = packed-room }
+    runs =
+        let s = place-small plan plan-accepted in record {
+          words = plan-length plan plan-accepted;
+          across = s .0;
+          down = s .1;
+          room = record { sides = sides-pass; first = omega (arith, room .0, p .size); second = room .1 };
+        }
 
-    first-shown : Shown (outsideOf k) W H 0 (put k W H f) i₁ j
-    first-shown = subst (λ (g : Point → ℕ). Shows (W + 15) (H + 15) g i₁) shows (p .shown)
-      where
-        v : ℕ
-        v = outsideOf k
-
-        shows : (λ q. view v W H (lowBits f) (q -ᵖ (pos (placeOf (farOf k)), pos (placeOf (farOf k))))) ≡ gridBytes k W H (put k W H f)
-        shows =
-            ap (λ l q. view v W H l (q -ᵖ (pos (placeOf (farOf k)), pos (placeOf (farOf k))))) (low-bits f cells-clean)
-            ∙ ap (λ s q. view v W H f (q -ᵖ s)) (far-corner k) ∙ sym (put-bytes k W H f)
-
-    -- the stages were run: the last plane shows the last grid, and both images keep their lengths and what is past the grid
-    module _ {op : Operation} (o : k ≡ around op) {n : ℕ} {i₂ j₂ : List ℕ} (e : Ended op plan W H i₁ j n i₂ j₂) where
+    -- the stages were run: the last planes show both levels of the last grid, and both images keep their lengths and what is past the grid
+    module _ {n : ℕ} {i₂ j₂ : List ℕ} (e : LevelsEnded two op plan W H i₁ j n i₂ j₂) where
       abbrev last : List ℕ
       last = lastGrid op W H (planMasks plan) (put (around op) W H f)
 
-      -- the operation's kind of grid
-      own-shown : Shown (outsideOf (around op)) W H 0 (put (around op) W H f) i₁ j
-      own-shown = subst (λ a. Shown (outsideOf a) W H 0 (put a W H f) i₁ j) o first-shown
+      last-low : Upto highest (gridBytes (around op) W H last)
+      last-low = last-upto highest (omega arith) op W H (planMasks plan) (put (around op) W H f) (put-upto highest (omega arith) (around op) W H f cells-upto)
 
       abbrev even : Bool
       even = eqb (n % 2) 0
 
-      first-then : Past W H i i₂
-      first-then = past-then first-past (e .first)
-
-      ended-room : Room W H i₂ j₂
-      ended-room = room-past packed-room (e .first) (e .second)
+      abbrev second : ℕ
+      second = secondAt two (W + 15) (H + 15)
 
       sizes : (length i₂ ≡ length i) × (length j₂ ≡ length j)
-      sizes = (first-then .size, e .second .size)
+      sizes = (e .first-size ∙ p .size, e .second-size)
 
       pasts : (drop (gridSize W H) i₂ ≡ drop (gridSize W H) i) × (drop (gridSize W H) j₂ ≡ drop (gridSize W H) j)
-      pasts = (first-then .rest, e .second .rest)
+      pasts = (e .first-past ∙ p .past, e .second-past)
 
       result-long : gridSize W H ≤ length (resultImage n i₂ j₂)
-      result-long = either even (gridSize W H) j₂ i₂ (ended-room .second) (ended-room .first)
+      result-long = either even (gridSize W H) j₂ i₂ (omega (arith, room .1, sizes .1)) (omega (arith, room .0, sizes .0))
+
+      -- the levels of the last grid, in the planes that stand
+      last-one : Shows (W + 15) (H + 15) (λ q. level false (gridBytes (around op) W H last q)) (standingImage n i₂ j₂)
+      last-one = e .one false (put (around op) W H f) (p .one)
+
+      last-some : Shows (W + 15) (H + 15) (λ q. level true (gridBytes (around op) W H last q)) (drop second (standingImage n i₂ j₂))
+      last-some =
+          subst (λ (x : List ℕ). Shows (W + 15) (H + 15) (λ q. level true (gridBytes (around op) W H last q)) x) (sym (drop-either even second i₂ j₂))
+          (e .some true (put (around op) W H f) (p .some))
 
       -- the result was cut
-      module _ {i₃ j₃ : List ℕ} (c : CutAway op (getD plan 1 0) W H n i₂ j₂ i₃ j₃) where
+      module _ {i₃ j₃ : List ℕ} (c : CutAway two op (getD plan 1 0) W H n i₂ j₂ i₃ j₃) where
         abbrev turned : List ℕ
         turned = inTurn op W H f (planOffset plan) (planMasks plan)
 
@@ -155,7 +147,7 @@ module _ (plan : List ℕ) (W H : ℕ) (f i j : List ℕ) (z : firstOf (operatio
         cut-is =
             c .to
             ∙ ap (λ l. l ++ drop (W * H) (resultImage n i₂ j₂))
-            (shown-cut (outsideOf (around op)) (W + 15) (H + 15) last (standingImage n i₂ j₂) (e .shown (put (around op) W H f) own-shown) W H
+            (shown-cut (outsideOf (around op)) second (W + 15) (H + 15) last (standingImage n i₂ j₂) last-one last-some last-low W H
             (distance op (placeX (getD plan 1 0))) (distance op (placeY (getD plan 1 0)))
             ∙ cut-turn op plan W H f last (getD plan 1 0) refl (small .0) (small .1) refl)
 

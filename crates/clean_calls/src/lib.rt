@@ -1,47 +1,34 @@
 // The four operations on a plan list, a frame and two work images: dilation, erosion, opening and closing. Each tries all grounds before it writes a byte,
-// packs the frame into a plane in the first image, and runs the stages and cuts the result by `result_steps`.
+// packs the frame into a plane in the first image, or into two where a cell was not measured (`packing`), and runs the stages and cuts the result by
+// `result_steps`.
+mod packing;
+
 use cleaning::Operation;
 use words::Answer;
 ghost use mathlib.Core.Path.{_≡_};
-ghost use Prim.Native.Nat.{_+_, _≤_};
 ghost use Rattle.words.specs.Ground.{stated, refusal, firstOf};
-ghost use Rattle.grids.specs.Grid.{outsideOf};
-ghost use Rattle.planes.specs.Planes.{farOf, Packed};
-ghost use Rattle.cleaning.specs.Operation.{around};
+ghost use Rattle.frame_grounds.specs.Looking.{greatestCell};
 ghost use Rattle.cleaning.specs.declared.Operation.the-variants.{Dilation, Erosion, Opening, Closing};
 ghost use Rattle.cleaning.specs.Cleaning.{operationTests, Cleaned};
 
-// What refuses an operation: the first of grounds 1 to 3, 5 to 8 and 11 to 14 that holds; Done(0) where none does.
-fn refused(plan: &[u32], w: usize, h: usize, frame: &[u8], first: &[u8], second: &[u8]) -> Answer
+// What refuses an operation on a frame whose greatest number is this: the first of grounds 1 to 3, 5 to 8 and 11 to 14 that holds; Done(0) where none does.
+fn refused(
+    plan: &[u32],
+    w: usize,
+    h: usize,
+    frame: &[u8],
+    greatest: u8,
+    first: &[u8],
+    second: &[u8],
+) -> Answer
+    requires { ⌜ greatest ≡ greatestCell w h (now frame) ⌝ }
     ensures { λ r. ⌜ stated r ≡ refusal (firstOf (operationTests (now (plan .entry)) w h (now (frame .entry)) (now (first .entry)) (now (second .entry)))) ⌝ }
 {
     let tested = plan_grounds::plan_refusal(plan);
     if let Answer::Refused(ground) = tested {
         return Answer::Refused(ground);
     }
-    frame_grounds::work_refusal(w, h, frame, first, second)
-}
-
-// The frame packed into a plane in the first image, in the kind of grid that the operation works in: erosion's frame stands at (15, 15), among occupied cells.
-fn packed(op: Operation, w: usize, h: usize, frame: &[u8], first: &mut [u8]) -> bool
-    requires { ⌜ (w ≤ 240) × (h ≤ 240) ⌝ }
-    ensures { λ r. ⌜ Packed (outsideOf (around op)) (farOf (around op)) w h (w + 15) (h + 15) (now (frame .entry)) (now (first .entry)) r
-        (now (first .exit)) ⌝ }
-{
-    match op {
-        Operation::Dilation => {
-            plane_pack_steps::pack(frame, first, w, h, w + 15, h + 15, false, 0)
-        }
-        Operation::Erosion => {
-            plane_pack_steps::pack(frame, first, w, h, w + 15, h + 15, true, 1)
-        }
-        Operation::Opening => {
-            plane_pack_steps::pack(frame, first, w, h, w + 15, h + 15, false, 0)
-        }
-        Operation::Closing => {
-            plane_pack_steps::pack(frame, first, w, h, w + 15, h + 15, false, 0)
-        }
-    }
+    frame_grounds::work_refusal(w, h, frame, greatest, first, second)
 }
 
 // An operation. Returns the number of stages run.
@@ -57,12 +44,14 @@ fn clean(
     ensures { λ r. ⌜ Cleaned op (now (plan .entry)) w h (now (frame .entry)) (now (first .entry)) (now (second .entry)) r (now (first .exit))
         (now (second .exit)) ⌝ }
 {
-    let tested = refused(plan, w, h, frame, first, second);
+    let greatest = frame_grounds::greatest_cell(w, h, frame);
+    let tested = refused(plan, w, h, frame, greatest, first, second);
     if let Answer::Refused(ground) = tested {
         return Answer::Refused(ground);
     }
-    packed(op, w, h, frame, first);
-    let n = result_steps::run(op, plan, w, h, first, second);
+    let two = greatest > 1;
+    packing::levels(op, w, h, frame, first, two);
+    let n = result_steps::run(op, plan, w, h, first, second, two);
     let run = n as u32;
     Answer::Done(run)
 }

@@ -1,6 +1,7 @@
 -- Worked cases of the operations: the part and the image that holds it, the number of stages run, and what the single stages give in turn.
-use mathlib.Core.Path.{_≡_, refl, subst}
-use mathlib.Core.Logic.{⊎-elim}
+use mathlib.Core.Path.{_≡_, refl, sym, _∙_, ap, subst}
+use mathlib.Core.Bool.{true, false}
+use mathlib.Core.Logic.{inl, inr, ⊎-elim}
 use mathlib.Core.List.{List, [], _∷_, _++_}
 use Prim.Native.Nat.{ℕ}
 use native.Mathlib.Omega.{arith}
@@ -8,15 +9,18 @@ use lib.IntN.{pos, negsuc}
 use lib.ListN.{length, getD, drop, replicate}
 use Rattle.cleaning.specs.declared.Operation.the-variants.{Dilation, Erosion, Opening, Closing}
 use Rattle.plane.specs.Lists.{In}
-use Rattle.plane.specs.Point.{Point, PointSet, _+ᵖ_, negᵖ, origin, only, opening}
+use Rattle.plane.specs.Point.{Point, PointSet, _+ᵖ_, negᵖ, _-ᵖ_, origin, only}
 use Rattle.words.specs.Ground.{firstOf, stated, result, refusal}
 use Rattle.words.specs.declared.Answer.{Answer}
 use Rattle.masks.specs.Mask.{maskCells}
 use Rattle.shapes.specs.Plan.{planTests, planPoints}
+use Rattle.grids.specs.Frame.{free, full, frame}
 use Rattle.grids.specs.Grid.{once, workTests}
 use Rattle.grids.specs.Image.{cells, valueAt}
+use Rattle.grids.specs.Rules.{SomeCovered, Greatest, Least}
 use Rattle.cleaning.specs.Cleaning.{part, stagesRun, operationTests, Cleaned}
-use Rattle.cleaning.specs.Operation.{made, Direct, inTurn, lastGrid}
+use Rattle.cleaning.specs.Operation.{Direct, inTurn, lastGrid}
+use Rattle.cleaning.specs.Sets.{made, DirectSet}
 
 -- ---- the part: the second image if the number is even, the first if odd
 
@@ -111,22 +115,99 @@ eroded-far : (inTurn Erosion 1 1 (0 ∷ []) (pos 15, pos 15) [] ≡ 1 ∷ []) ×
 unfolding inTurn lastGrid once cells valueAt _+ᵖ_ negᵖ
 eroded-far = (refl, refl)
 
+-- a cell that was not measured: dilated by two columns it spreads over free cells, eroded it takes its neighbour, closed and opened it is the two in turn
+turned-unmeasured : (inTurn Dilation 3 1 (2 ∷ 0 ∷ 1 ∷ []) (pos 0, pos 0) (3 ∷ []) ≡ 2 ∷ 2 ∷ 1 ∷ [])
+    × (inTurn Erosion 3 1 (1 ∷ 2 ∷ 0 ∷ []) (pos 0, pos 0) (3 ∷ []) ≡ 2 ∷ 0 ∷ 0 ∷ [])
+    × (inTurn Closing 3 1 (1 ∷ 2 ∷ 1 ∷ []) (pos 0, pos 0) (3 ∷ []) ≡ 1 ∷ 1 ∷ 1 ∷ [])
+    × (inTurn Opening 3 1 (1 ∷ 1 ∷ 2 ∷ []) (pos 0, pos 0) (3 ∷ []) ≡ 1 ∷ 1 ∷ 2 ∷ [])
+unfolding inTurn lastGrid once cells valueAt maskCells _+ᵖ_ negᵖ
+turned-unmeasured = (refl, refl, refl, refl)
+
 -- ---- directly
 
 -- the second of two cells is occupied, and with one point at the origin it stays where it is
 second-cell : (r : List ℕ) → Direct Dilation 2 1 (0 ∷ 1 ∷ []) (only origin) r → getD r 1 0 ≡ 1
+unfolding cells valueAt _+ᵖ_ negᵖ
+second-cell r d = ap (λ l. getD l 1 0) (d .cut) ∙ go (d .made (pos 1, pos 0))
+  where
+    one : SomeCovered false (only origin) (frame free 2 1 (0 ∷ 1 ∷ [])) (pos 1, pos 0) 1
+    one = (origin, refl, refl)
+
+    go : {v : ℕ} → Greatest (SomeCovered false (only origin) (frame free 2 1 (0 ∷ 1 ∷ [])) (pos 1, pos 0)) v → v ≡ 1
+    go (inl a) = a .0
+    go (inr (inl a)) = absurd (a .1 one)
+    go (inr (inr a)) = absurd (a .1 one)
+
+-- the same, by sets
+second-in-set : (r : List ℕ) → DirectSet Dilation 2 1 (0 ∷ 1 ∷ []) (only origin) r → getD r 1 0 ≡ 1
 unfolding valueAt _+ᵖ_
-second-cell r d = ⊎-elim
+second-in-set r d = ⊎-elim
     (λ q. q .0)
     (λ q. absurd (q .1 ((pos 1, pos 0), origin, refl, refl, refl)))
     (d .cell 1 0 (omega arith) (omega arith))
 
--- opening leaves only points that were there
-opening-part : (X A : PointSet) (p : Point) → opening X A p → X p
-opening-part X A p h = subst X (h .4) (h .2 (h .1) (h .3))
+-- a cell that is not measured is the least beside an occupied one, by erosion
+least-cell : (r : List ℕ) → Direct Erosion 2 1 (1 ∷ 2 ∷ []) (In (origin ∷ (pos 1, pos 0) ∷ [])) r → getD r 0 0 ≡ 2
+unfolding cells valueAt _+ᵖ_ negᵖ
+least-cell r d = ap (λ l. getD l 0 0) (d .cut) ∙ go (d .made (pos 0, pos 0))
+  where
+    F : Point → ℕ
+    F = frame full 2 1 (1 ∷ 2 ∷ [])
 
+    A : PointSet
+    A = In (origin ∷ (pos 1, pos 0) ∷ [])
+
+    none : SomeCovered true A F (pos 0, pos 0) 0 → ⊥
+    none c = zeros (c .0) (c .1) (c .2)
+      where
+        zeros : (a : Point) → A a → F ((pos 0, pos 0) +ᵖ a) ≡ 0 → ⊥
+        zeros a (inl e) z = let n : _≡_ {A = ℕ} 1 0 = ap (λ b. F ((pos 0, pos 0) +ᵖ b)) (sym e) ∙ z in omega arith
+        zeros a (inr (inl e)) z = let n : _≡_ {A = ℕ} 2 0 = ap (λ b. F ((pos 0, pos 0) +ᵖ b)) (sym e) ∙ z in omega arith
+        zeros a (inr (inr e)) z = e
+
+    go : {v : ℕ} → Least (SomeCovered true A F (pos 0, pos 0)) v → v ≡ 2
+    go (inl a) = absurd (none (a .1))
+    go (inr (inl a)) = a .0
+    go (inr (inr a)) = absurd (a .2 ((pos 1, pos 0), inr (inl refl), refl))
+
+-- one cell opened by two columns goes, since what is outside reads as free; closed it would stay
+opened-cell : (r : List ℕ) → Direct Opening 1 1 (1 ∷ []) (In (origin ∷ (pos 1, pos 0) ∷ [])) r → getD r 0 0 ≡ 0
+unfolding cells valueAt _+ᵖ_ negᵖ
+opened-cell r d = ap (λ l. getD l 0 0) (d .cut) ∙ dilates (d .made .2 (pos 0, pos 0))
+  where
+    F : Point → ℕ
+    F = frame free 1 1 (1 ∷ [])
+
+    A : PointSet
+    A = In (origin ∷ (pos 1, pos 0) ∷ [])
+
+    h : Point → ℕ
+    h = d .made .0
+
+    erodes : (p : Point) → SomeCovered true A F p 0 → Least (SomeCovered true A F p) (h p) → h p ≡ 0
+    erodes p s (inl a) = a .0
+    erodes p s (inr (inl a)) = absurd (a .1 s)
+    erodes p s (inr (inr a)) = absurd (a .1 s)
+
+    here : h (pos 0, pos 0) ≡ 0
+    here = erodes (pos 0, pos 0) ((pos 1, pos 0), inr (inl refl), refl) (d .made .1 (pos 0, pos 0))
+
+    before : h (negsuc 0, pos 0) ≡ 0
+    before = erodes (negsuc 0, pos 0) (origin, inl refl, refl) (d .made .1 (negsuc 0, pos 0))
+
+    free-there : (a : Point) → A a → h ((pos 0, pos 0) -ᵖ a) ≡ 0
+    free-there a (inl e) = ap (λ b. h ((pos 0, pos 0) -ᵖ b)) e ∙ here
+    free-there a (inr (inl e)) = ap (λ b. h ((pos 0, pos 0) -ᵖ b)) e ∙ before
+    free-there a (inr (inr e)) = absurd e
+
+    dilates : {v : ℕ} → Greatest (SomeCovered false A h (pos 0, pos 0)) v → v ≡ 0
+    dilates (inl a) = let c = a .1 in absurd (omega (arith, free-there (c .0) (c .1), c .2))
+    dilates (inr (inl a)) = let c = a .2 in absurd (omega (arith, free-there (c .0) (c .1), c .2))
+    dilates (inr (inr a)) = a .0
+
+-- opening leaves only points that were there
 opened-part : (X A : PointSet) (p : Point) → made Opening X A p → X p
-opened-part X A p h = opening-part X A p h
+opened-part X A p h = subst X (h .4) (h .2 (h .1) (h .3))
 
 -- ---- what an operation leaves: the part, and every byte past the grids
 
@@ -143,7 +224,7 @@ unfolding planTests workTests _+ᵖ_ negᵖ
 runs-direct r i′ j′ p = p .done refl .direct
 
 -- and a refusal leaves both images
-runs-not : (r : Answer) (i′ j′ : List ℕ) → Cleaned Closing (0x30000000 ∷ 0x40000f0f ∷ []) 1 1 (2 ∷ []) (5 ∷ []) (6 ∷ []) r i′ j′
+runs-not : (r : Answer) (i′ j′ : List ℕ) → Cleaned Closing (0x30000000 ∷ 0x40000f0f ∷ []) 1 1 (3 ∷ []) (5 ∷ []) (6 ∷ []) r i′ j′
     → (stated r ≡ refusal 13) × ((i′ ≡ 5 ∷ []) × (j′ ≡ 6 ∷ []))
 unfolding planTests workTests _+ᵖ_
 runs-not r i′ j′ p = p .refused (λ e. let n : _≡_ {A = ℕ} 13 0 = e in omega arith)

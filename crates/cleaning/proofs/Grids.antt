@@ -3,9 +3,9 @@
 use mathlib.Core.Path.{_≡_}
 use mathlib.Core.Bool.{Bool, true, false, not}
 use mathlib.Core.List.{List}
-use Prim.Native.Nat.{ℕ, _≤_}
+use Prim.Native.Nat.{ℕ}
 use lib.Dec.{T}
-use lib.ListN.{getD, take}
+use lib.ListN.{take}
 use Rattle.plane.specs.Lists.{all}
 use Rattle.plane.specs.Point.{Point}
 use Rattle.masks.specs.Chain.{sumOf}
@@ -13,26 +13,25 @@ use Rattle.masks.specs.Mask.{stage}
 use Rattle.grids.specs.Frame.{free, frame, over}
 use Rattle.grids.specs.Grid.{grid, put, once}
 use Rattle.grids.specs.declared.Around.the-variants.{Free}
-use Rattle.grids.proofs.Putting.{frame-binary, frame-within}
-use Rattle.grids.proofs.Stage.{over-binary}
+use Rattle.grids.proofs.Putting.{frame-within}
 use Rattle.cleaning.specs.declared.Operation.{Operation}
 use Rattle.cleaning.specs.declared.Operation.the-variants.{Opening, Closing}
 use Rattle.cleaning.specs.Operation.{around, asRead, through}
 use Rattle.cleaning.proofs.Turn.{turn, firstKind, passed}
 use Rattle.cleaning.proofs.Within.{Small, Kept, kept, dilation-within, erosion-within, erosion-kept, first-stages, small-part}
 
-pub after-stages : (op : Operation) (W H : ℕ) (f ms : List ℕ) (k : ℕ) → T (all stage ms) → Small ms → ((i : ℕ) → getD f i 0 ≤ 1)
+pub after-stages : (op : Operation) (W H : ℕ) (f ms : List ℕ) (k : ℕ) → T (all stage ms) → Small ms
     → grid (around op) W H (through (once (firstKind op) (around op) W H) (take k ms) (put (around op) W H f))
     ≡ over (firstKind op) (sumOf (take k ms)) (asRead op W H f)
-after-stages op W H f ms k t s v = passed op W H f (take k ms) (first-stages k ms t) (small-part k ms t s) v
+after-stages op W H f ms k t s = passed op W H f (take k ms) (first-stages k ms t) (small-part k ms t s)
 
 -- opening and closing: all stages by one kind, and then the first k by the other
-pub after-second : (erode : Bool) (W H : ℕ) (f ms : List ℕ) (k : ℕ) → T (all stage ms) → Small ms → ((i : ℕ) → getD f i 0 ≤ 1)
+pub after-second : (erode : Bool) (W H : ℕ) (f ms : List ℕ) (k : ℕ) → T (all stage ms) → Small ms
     → grid Free W H (through (once erode Free W H) (take k ms) (through (once (not erode) Free W H) ms (put Free W H f)))
     ≡ over erode (sumOf (take k ms)) (over (not erode) (sumOf ms) (frame free W H f))
-after-second erode W H f ms k t s v =
+after-second erode W H f ms k t s =
     turn erode Free W H (take k ms) (over (not erode) (sumOf ms) F) (through (once (not erode) Free W H) ms (put Free W H f))
-    (over-binary (not erode) (sumOf ms) F (frame-binary Free W H f v)) (stays erode) (before erode)
+    (stays erode) (before erode)
   where
     F : Point → ℕ
     F = frame free W H f
@@ -43,5 +42,5 @@ after-second erode W H f ms k t s v =
         kept false W H (take k ms) (over true (sumOf ms) F) (first-stages k ms t) (small-part k ms t s) (erosion-within W H ms F t (frame-within Free W H f))
 
     before : (e : Bool) → grid Free W H (through (once (not e) Free W H) ms (put Free W H f)) ≡ over (not e) (sumOf ms) F
-    before true = passed Closing W H f ms t s v
-    before false = passed Opening W H f ms t s v
+    before true = passed Closing W H f ms t s
+    before false = passed Opening W H f ms t s

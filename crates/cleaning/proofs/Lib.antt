@@ -2,6 +2,8 @@ pub mod Within
 pub mod Turn
 pub mod Grids
 pub mod Fixed
+pub mod Upto
+pub mod Sets
 pub mod Plans
 pub mod Starts
 pub mod Kept

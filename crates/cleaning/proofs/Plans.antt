@@ -24,8 +24,8 @@ use Rattle.masks.proofs.Cells.{sumCells, sum-cells, sum-low, Low}
 use Rattle.shapes.specs.Plan.{planMasks, planOffset, planPoints, planTests}
 use Rattle.shapes.specs.Shape.{tooFar, outOfRange}
 use Rattle.shapes.proofs.Written.{plan-itself}
-use Rattle.grids.specs.Frame.{badCell}
-use Rattle.grids.proofs.Stage.{bytes-binary}
+use Rattle.grids.specs.Frame.{highest, badCell}
+use Rattle.grids.proofs.Stage.{bytes-upto}
 use Rattle.grids.specs.Grid.{workTests}
 use Rattle.cleaning.specs.Cleaning.{operationTests}
 use Rattle.cleaning.specs.Operation.{Direct, inTurn}
@@ -82,8 +82,8 @@ small-plan ws t o c h = (
             ∙ +ℤ-less (axis d) (pos (number c))
 
 -- ground 13
-pub binary : (f : List ℕ) → T (not (badCell f)) → (i : ℕ) → getD f i 0 ≤ 1
-binary f t i = bytes-binary 0 zero-le f t i
+pub passing : (f : List ℕ) → T (not (badCell f)) → (i : ℕ) → getD f i 0 ≤ highest
+passing f t i = bytes-upto 0 zero-le f t i
 
 pub accepted-direct : (op : Operation) (plan : List ℕ) (W H : ℕ) (f i j : List ℕ) → firstOf (operationTests plan W H f i j) ≡ 0
     → Direct op W H f (In (planPoints plan)) (inTurn op W H f (planOffset plan) (planMasks plan))
@@ -94,4 +94,4 @@ accepted-direct op plan W H f i j e =
     let w = clear-last (planTests plan) (workTests W H f i j) c in
     let P = plan-itself plan (p .0) in
     let small = small-plan plan (P .stages) (p .1 .0) in
-    turn-direct op W H f (planOffset plan) (planMasks plan) (In (planPoints plan)) (P .stages) small (binary f (w .1 .1 .0)) (P .sum)
+    turn-direct op W H f (planOffset plan) (planMasks plan) (In (planPoints plan)) (P .stages) small (passing f (w .1 .1 .0)) (P .sum)

@@ -1,35 +1,34 @@
 -- What the single stages give in turn is what the shape gives directly: stage after stage the grid is the whole picture, since nothing is lost in it,
 -- and taking a picture through all stages is taking it through their sum.
-use mathlib.Core.Path.{_≡_, sym, _∙_, ap, subst, fun-ext}
-use mathlib.Core.Logic.{_↔_, _⊎_, inl, inr}
+use mathlib.Core.Path.{_≡_, refl, sym, _∙_, ap, subst, fun-ext}
+use mathlib.Core.Logic.{_↔_}
 use mathlib.Core.Bool.{Bool, true, false}
 use mathlib.Core.List.{List, [], _∷_}
-use Prim.Native.Nat.{ℕ, suc, _+_, _*_, _≤_}
+use Prim.Native.Nat.{ℕ, suc, _≤_}
 use native.Mathlib.Omega.{arith}
-use native.Mathlib.Decide.{ℕ-discrete}
-use native.Mathlib.Nat.{mul-comm}
 use lib.Dec.{T}
-use lib.IntN.{pos}
 use lib.ListN.{getD, take}
 use Rattle.cleaning.specs.declared.Operation.{Operation}
 use Rattle.cleaning.specs.declared.Operation.the-variants.{Dilation, Erosion, Opening, Closing}
 use Rattle.plane.specs.Lists.{In, all}
 use Rattle.plane.specs.Point.{Point, _+ᵖ_, _-ᵖ_, origin, PointSet, _≐_, moved}
-use Rattle.plane.proofs.Algebra.{+ᵖ-origin, subᵖ-cancel, ≐-refl, ≐-sym, ≐-trans, ⊕-comm, ⊕-cong, ⊖-cong, moved-⊕, ⊖-moved, opening-moved, closing-moved}
+use Rattle.plane.proofs.Algebra.{+ᵖ-assoc, +ᵖ-comm, +ᵖ-origin, +ᵖ-cancel, subᵖ-cancel, ≐-sym, ≐-trans, ⊕-comm}
 use Rattle.masks.specs.Chain.{sums, sumOf}
 use Rattle.masks.specs.Mask.{maskPoints, stage}
 use Rattle.masks.proofs.Sum.{sums-is}
-use Rattle.grids.specs.Frame.{free, full, greater, lesser, frame, occupied, over}
+use Rattle.grids.specs.Frame.{free, full, highest, greater, lesser, frame, over}
 use Rattle.grids.specs.Grid.{grid, laid, put, once}
 use Rattle.grids.specs.declared.Around.{Around}
 use Rattle.grids.specs.declared.Around.the-variants.{Free, Occupied}
 use Rattle.grids.specs.Image.{cells}
-use Rattle.grids.proofs.Fold.{dilated-same, dilated-sums, eroded-same, eroded-sums}
-use Rattle.grids.proofs.Pictures.{Within, getD-cells, length-cells}
-use Rattle.grids.proofs.Putting.{within-more, InGrid, laid-whole, frame-binary, frame-within, put-whole}
-use Rattle.grids.proofs.Stage.{greater-laws, lesser-laws, Binary, over-binary, D-set, E-set, once-is}
-use Rattle.cleaning.specs.Operation.{made, Says, Direct, around, asRead, through, lastGrid, readAt, inTurn}
-use Rattle.cleaning.proofs.Fixed.{says-same}
+use Rattle.grids.specs.Rules.{covered, SomeCovered, Gives, Makes}
+use Rattle.grids.proofs.Fold.{sub-sum, dilated-same, dilated-sums, eroded-same, eroded-sums}
+use Rattle.grids.proofs.Pictures.{Within}
+use Rattle.grids.proofs.Putting.{within-more, InGrid, laid-whole, frame-upto, frame-within, put-whole}
+use Rattle.grids.proofs.Rules.{gives-same, over-makes}
+use Rattle.grids.proofs.Stage.{over-upto, once-is}
+use Rattle.grids.proofs.Values.{Upto, greater-laws, lesser-laws, greater-unit, lesser-unit}
+use Rattle.cleaning.specs.Operation.{Made, Direct, around, asRead, through, lastGrid, readAt, inTurn}
 use Rattle.cleaning.proofs.Within.{Small, Kept, kept, dilation-within, erosion-within, erosion-kept}
 
 -- ---- a picture taken through a sum
@@ -43,11 +42,11 @@ over-same : (erode : Bool) (P Q : List Point) (f : Point → ℕ) → In P ≐ I
 over-same true P Q f s = fun-ext (λ p. eroded-same lesser full lesser-laws P Q f p s)
 over-same false P Q f s = fun-ext (λ p. dilated-same greater free greater-laws P Q f p s)
 
--- through no stage, a picture of 0 and 1 stays as it is
-over-none : (erode : Bool) (f : Point → ℕ) → Binary f → over erode (sumOf []) f ≡ f
+-- through no stage, a picture stays as it is
+over-none : (erode : Bool) (f : Point → ℕ) → over erode (sumOf []) f ≡ f
 unfolding sumOf
-over-none true f b = fun-ext (λ p. let q : f (p +ᵖ origin) ≡ f p = ap f (+ᵖ-origin p) in let z = b p in omega arith)
-over-none false f b = fun-ext (λ p. let q : f (p -ᵖ origin) ≡ f p = ap f (sym (+ᵖ-origin (p -ᵖ origin)) ∙ subᵖ-cancel p origin) in omega arith)
+over-none true f = fun-ext (λ p. lesser-unit (f (p +ᵖ origin)) ∙ ap f (+ᵖ-origin p))
+over-none false f = fun-ext (λ p. greater-unit (f (p -ᵖ origin)) ∙ ap f (sym (+ᵖ-origin (p -ᵖ origin)) ∙ subᵖ-cancel p origin))
 
 -- the first stage and then the others is all of them
 over-cons : (erode : Bool) (m : ℕ) (ms : List ℕ) (f : Point → ℕ) → over erode (sumOf ms) (over erode (maskPoints m) f) ≡ over erode (sumOf (m ∷ ms)) f
@@ -59,20 +58,17 @@ over-cons erode m ms f =
 
 -- ---- stage after stage
 
-pub turn : (erode : Bool) (k : Around) (W H : ℕ) (ms : List ℕ) (f : Point → ℕ) (g : List ℕ) → Binary f → Kept erode k W H ms f → grid k W H g ≡ f
+pub turn : (erode : Bool) (k : Around) (W H : ℕ) (ms : List ℕ) (f : Point → ℕ) (g : List ℕ) → Kept erode k W H ms f → grid k W H g ≡ f
     → grid k W H (through (once erode k W H) ms g) ≡ over erode (sumOf ms) f
-turn erode k W H [] f g b q e = e ∙ sym (over-none erode f b)
-turn erode k W H (m ∷ ms) f g b q e = turn erode k W H ms F (once erode k W H m g) c rest here ∙ over-cons erode m ms f
+turn erode k W H [] f g q e = e ∙ sym (over-none erode f)
+turn erode k W H (m ∷ ms) f g q e = turn erode k W H ms F (once erode k W H m g) rest here ∙ over-cons erode m ms f
   where
     -- the picture after the first stage
     F : Point → ℕ
     F = over erode (maskPoints m) f
 
-    c : Binary F
-    c = over-binary erode (maskPoints m) f b
-
     first : InGrid k W H F
-    first = subst (InGrid k W H) (sym (over-cons erode m [] f) ∙ over-none erode F c) (q 1)
+    first = subst (InGrid k W H) (sym (over-cons erode m [] f) ∙ over-none erode F) (q 1)
 
     rest : Kept erode k W H ms F
     rest j = subst (InGrid k W H) (sym (over-cons erode m (take j ms) f)) (q (suc j))
@@ -90,18 +86,6 @@ whole Erosion P f = over true P f
 whole Opening P f = over false P (over true P f)
 whole Closing P f = over true P (over false P f)
 
-whole-binary : (op : Operation) (P : List Point) (f : Point → ℕ) → Binary f → Binary (whole op P f)
-whole-binary Dilation P f b = over-binary false P f b
-whole-binary Erosion P f b = over-binary true P f b
-whole-binary Opening P f b = over-binary false P (over true P f) (over-binary true P f b)
-whole-binary Closing P f b = over-binary true P (over false P f) (over-binary false P f b)
-
-whole-set : (op : Operation) (P : List Point) (f : Point → ℕ) → Binary f → occupied (whole op P f) ≐ made op (occupied f) (In P)
-whole-set Dilation P f b = D-set P f b
-whole-set Erosion P f b = E-set P f b
-whole-set Opening P f b = ≐-trans (D-set P (over true P f) (over-binary true P f b)) (⊕-cong (E-set P f b) (≐-refl (In P)))
-whole-set Closing P f b = ≐-trans (E-set P (over false P f) (over-binary false P f b)) (⊖-cong (D-set P f b) (≐-refl (In P)))
-
 -- the kind of stage of the first pass
 abbrev pub firstKind : Operation → Bool
 firstKind Dilation = false
@@ -117,85 +101,101 @@ first-kept Opening W H f ms t s = erosion-kept W H ms (frame free W H f) t (with
 first-kept Closing W H f ms t s = kept false W H ms (frame free W H f) t s (frame-within Free W H f)
 
 -- one pass: the frame through all the stages, by one kind
-pub passed : (op : Operation) (W H : ℕ) (f ms : List ℕ) → T (all stage ms) → Small ms → ((i : ℕ) → getD f i 0 ≤ 1)
+pub passed : (op : Operation) (W H : ℕ) (f ms : List ℕ) → T (all stage ms) → Small ms
     → grid (around op) W H (through (once (firstKind op) (around op) W H) ms (put (around op) W H f)) ≡ over (firstKind op) (sumOf ms) (asRead op W H f)
-passed op W H f ms t s v =
-    turn (firstKind op) (around op) W H ms (asRead op W H f) (put (around op) W H f) (frame-binary (around op) W H f v) (first-kept op W H f ms t s)
+passed op W H f ms t s =
+    turn (firstKind op) (around op) W H ms (asRead op W H f) (put (around op) W H f) (first-kept op W H f ms t s)
     (put-whole (around op) W H f)
 
-pub last-whole : (op : Operation) (W H : ℕ) (f ms : List ℕ) → T (all stage ms) → Small ms → ((i : ℕ) → getD f i 0 ≤ 1)
+pub last-whole : (op : Operation) (W H : ℕ) (f ms : List ℕ) → T (all stage ms) → Small ms
     → grid (around op) W H (lastGrid op W H ms (put (around op) W H f)) ≡ whole op (sumOf ms) (asRead op W H f)
 unfolding lastGrid
-last-whole op W H f ms t s v = go op
+last-whole op W H f ms t s = go op
   where
     F : Point → ℕ
     F = frame free W H f
-
-    b : Binary F
-    b = frame-binary Free W H f v
 
     w : Within 0 W H F
     w = frame-within Free W H f
 
     go : (op : Operation) → grid (around op) W H (lastGrid op W H ms (put (around op) W H f)) ≡ whole op (sumOf ms) (asRead op W H f)
-    go Dilation = passed Dilation W H f ms t s v
-    go Erosion = passed Erosion W H f ms t s v
+    go Dilation = passed Dilation W H f ms t s
+    go Erosion = passed Erosion W H f ms t s
     go Opening =
-        turn false Free W H ms (over true (sumOf ms) F) (through (once true Free W H) ms (put Free W H f)) (over-binary true (sumOf ms) F b)
-        (kept false W H ms (over true (sumOf ms) F) t s (erosion-within W H ms F t w)) (passed Opening W H f ms t s v)
+        turn false Free W H ms (over true (sumOf ms) F) (through (once true Free W H) ms (put Free W H f))
+        (kept false W H ms (over true (sumOf ms) F) t s (erosion-within W H ms F t w)) (passed Opening W H f ms t s)
     go Closing =
-        turn true Free W H ms (over false (sumOf ms) F) (through (once false Free W H) ms (put Free W H f)) (over-binary false (sumOf ms) F b)
-        (erosion-kept W H ms (over false (sumOf ms) F) t (dilation-within W H ms F s w)) (passed Closing W H f ms t s v)
+        turn true Free W H ms (over false (sumOf ms) F) (through (once false Free W H) ms (put Free W H f))
+        (erosion-kept W H ms (over false (sumOf ms) F) t (dilation-within W H ms F s w)) (passed Closing W H f ms t s)
 
 -- ---- directly
 
--- a cell that is 1 exactly where P holds, and never above 1, says whether P
-pub says : (v : ℕ) (P : Type 0) → v ≤ 1 → (v ≡ 1 ↔ P) → Says v P
-says v P h e = go (ℕ-discrete v 1)
-  where
-    go : Dec (v ≡ 1) → ((v ≡ 1) × P) ⊎ ((v ≡ 0) × ¬ P)
-    go (yes q) = inl (q, e .0 q)
-    go (no q) = inr (omega arith, λ x. q (e .1 x))
+-- the picture that each operation makes by the rules
+whole-made : (op : Operation) (P : List Point) (f : Point → ℕ) → Upto highest f → Made op (In P) f (whole op P f)
+whole-made Dilation P f b = over-makes false P f b
+whole-made Erosion P f b = over-makes true P f b
+whole-made Opening P f b = (over true P f, over-makes true P f b, over-makes false P (over true P f) (over-upto highest (omega arith) true P f b))
+whole-made Closing P f b = (over false P f, over-makes false P f b, over-makes true P (over false P f) (over-upto highest (omega arith) false P f b))
 
--- the cells of a picture are what A gives directly, if its occupied points are those that the operation makes
-direct : (op : Operation) (W H : ℕ) (f : List ℕ) (A : PointSet) (F : Point → ℕ) → Binary F → occupied F ≐ made op (occupied (asRead op W H f)) A
-    → Direct op W H f A (cells W H F)
-direct op W H f A F b e = record {
-  size = length-cells W H F ∙ mul-comm H W;
-  cell = λ x y h k. let p : Point = (pos x, pos y) in
-      let S = made op (occupied (asRead op W H f)) A p in
-      subst (λ n. Says n S) (sym (getD-cells W H F x y 0 h k)) (says (F p) S (b p) (e p));
-}
+-- what is covered by the points S at p in one picture, and by S moved by d at q in another
+moved-covered : (erode : Bool) (S A : PointSet) (d : Point) (f g : Point → ℕ) (p q : Point) → A ≐ moved d S
+    → ((a : Point) → f (covered erode p a) ≡ g (covered erode q (a +ᵖ d)))
+    → (v : ℕ) → SomeCovered erode S f p v ↔ SomeCovered erode A g q v
+moved-covered erode S A d f g p q e h v = (
+  λ c. (c .0 +ᵖ d, e (c .0 +ᵖ d) .1 (subst S (sym (+ᵖ-cancel (c .0) d)) (c .1)), sym (h (c .0)) ∙ c .2),
+  λ c. (c .0 -ᵖ d, e (c .0) .0 (c .1), h (c .0 -ᵖ d) ∙ ap (λ z. g (covered erode q z)) (subᵖ-cancel (c .0) d) ∙ c .2),
+)
 
--- the set at the place that is read is the set of the moved sum
-made-moved : (op : Operation) (X S A : PointSet) (d : Point) → A ≐ moved d S → (p : Point) → made op X S (readAt op d p) ↔ made op X A p
-made-moved Dilation X S A d e p = ≐-trans (moved-⊕ d X S) (⊕-cong (≐-refl X) (≐-sym e)) p
-made-moved Erosion X S A d e p = (λ h. ⊖-cong (≐-refl X) e p .1 (⊖-moved d X S p .1 h), λ h. ⊖-moved d X S p .0 (⊖-cong (≐-refl X) e p .0 h))
-made-moved Opening X S A d e p = ≐-trans (≐-sym (opening-moved d X S)) (⊕-cong (⊖-cong (≐-refl X) (≐-sym e)) (≐-sym e)) p
-made-moved Closing X S A d e p = ≐-trans (≐-sym (closing-moved d X S)) (⊖-cong (⊕-cong (≐-refl X) (≐-sym e)) (≐-sym e)) p
+-- of the sum moved by the offset, the picture is that of the sum, read where the operation reads it
+module _ (S A : PointSet) (d : Point) (e : A ≐ moved d S) where
+  by-moved : (erode : Bool) (f h g k : Point → ℕ) (at : Point → Point) → ((p a : Point) → f (covered erode (at p) a) ≡ h (covered erode p (a +ᵖ d)))
+      → ((p : Point) → k p ≡ g (at p)) → Makes erode S f g → Makes erode A h k
+  by-moved erode f h g k at same shown m p =
+      subst (Gives erode A h p) (sym (shown p)) (gives-same erode S A f h (at p) p (moved-covered erode S A d f h (at p) p e (same p)) (g (at p)) (m (at p)))
+
+  dilation-moved : (f g : Point → ℕ) → Makes false S f g → Makes false A f (λ p. g (p -ᵖ d))
+  dilation-moved f g m = by-moved false f f g (λ p. g (p -ᵖ d)) (λ p. p -ᵖ d) (λ p a. ap f (back p a)) (λ p. refl) m
+    where
+      back : (p a : Point) → p -ᵖ d -ᵖ a ≡ p -ᵖ (a +ᵖ d)
+      back p a = sym (sub-sum p d a) ∙ ap (λ z. p -ᵖ z) (+ᵖ-comm d a)
+
+  erosion-moved : (f g : Point → ℕ) → Makes true S f g → Makes true A f (λ p. g (p +ᵖ d))
+  erosion-moved f g m = by-moved true f f g (λ p. g (p +ᵖ d)) (λ p. p +ᵖ d) (λ p a. ap f (on p a)) (λ p. refl) m
+    where
+      on : (p a : Point) → p +ᵖ d +ᵖ a ≡ p +ᵖ (a +ᵖ d)
+      on p a = +ᵖ-assoc p d a ∙ ap (λ z. p +ᵖ z) (+ᵖ-comm d a)
+
+  pub made-moved : (op : Operation) (f g : Point → ℕ) → Made op S f g → Made op A f (λ p. g (readAt op d p))
+  made-moved Dilation f g m = dilation-moved f g m
+  made-moved Erosion f g m = erosion-moved f g m
+  made-moved Opening f g m = (
+    λ q. m .0 (q +ᵖ d),
+    erosion-moved f (m .0) (m .1),
+    by-moved false (m .0) (λ q. m .0 (q +ᵖ d)) g g (λ p. p) (λ p a. ap (m .0) (there p a)) (λ p. refl) (m .2),
+  )
+    where
+      there : (p a : Point) → p -ᵖ a ≡ p -ᵖ (a +ᵖ d) +ᵖ d
+      there p a = sym (subᵖ-cancel (p -ᵖ a) d) ∙ ap (λ z. z +ᵖ d) (sym (sub-sum p a d))
+  made-moved Closing f g m = (
+    λ q. m .0 (q -ᵖ d),
+    dilation-moved f (m .0) (m .1),
+    by-moved true (m .0) (λ q. m .0 (q -ᵖ d)) g g (λ p. p) (λ p a. ap (m .0) (here p a)) (λ p. refl) (m .2),
+  )
+    where
+      here : (p a : Point) → p +ᵖ a ≡ p +ᵖ (a +ᵖ d) -ᵖ d
+      here p a = sym (+ᵖ-cancel (p +ᵖ a) d) ∙ ap (λ z. z -ᵖ d) (+ᵖ-assoc p a d)
 
 -- what the single stages give in turn is what a set gives directly that is their sum moved
 pub turn-direct : (op : Operation) (W H : ℕ) (f : List ℕ) (d : Point) (ms : List ℕ) (A : PointSet) → T (all stage ms) → Small ms
-    → ((i : ℕ) → getD f i 0 ≤ 1) → A ≐ moved d (In (sumOf ms))
+    → ((i : ℕ) → getD f i 0 ≤ highest) → A ≐ moved d (In (sumOf ms))
     → Direct op W H f A (inTurn op W H f d ms)
 unfolding inTurn put
 turn-direct op W H f d ms A t s v e =
     let g = asRead op W H f in
-    let b = frame-binary (around op) W H f v in
     let S = sumOf ms in
-    let is = ≐-trans (λ p. whole-set op S g b (readAt op d p)) (made-moved op (occupied g) (In S) A d e) in
-    subst (λ z. Direct op W H f A (cells W H (λ p. z (readAt op d p)))) (sym (last-whole op W H f ms t s v))
-    (direct op W H f A (λ p. whole op S g (readAt op d p)) (λ p. whole-binary op S g b (readAt op d p)) is)
-
--- equal sets of points give the same directly
-made-same : (op : Operation) (X A B : PointSet) → A ≐ B → made op X A ≐ made op X B
-made-same Dilation X A B e = ⊕-cong (≐-refl X) e
-made-same Erosion X A B e = ⊖-cong (≐-refl X) e
-made-same Opening X A B e = ⊕-cong (⊖-cong (≐-refl X) e) e
-made-same Closing X A B e = ⊖-cong (⊕-cong (≐-refl X) e) e
-
-pub same-direct : (op : Operation) (W H : ℕ) (f : List ℕ) (A B : PointSet) (r : List ℕ) → A ≐ B → Direct op W H f A r → Direct op W H f B r
-same-direct op W H f A B r e D = record { size = D .size; cell = λ x y h k. says-same (getD r (y * W + x) 0) (same (pos x, pos y)) (D .cell x y h k) }
-  where
-    same : made op (occupied (asRead op W H f)) A ≐ made op (occupied (asRead op W H f)) B
-    same = made-same op (occupied (asRead op W H f)) A B e
+    let b = frame-upto highest (omega arith) (around op) W H f v in
+    record {
+      picture = λ p. whole op S g (readAt op d p);
+      made = made-moved (In S) A d e op g (whole op S g) (whole-made op S g b);
+      cut = ap (λ z. cells W H (λ p. z (readAt op d p))) (last-whole op W H f ms t s);
+    }

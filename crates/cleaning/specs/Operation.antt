@@ -1,14 +1,12 @@
 -- Document 01, "Frames": what a shape gives directly, and what the single stages give in turn.
 use mathlib.Core.Path.{_≡_}
-use mathlib.Core.Logic.{_⊎_}
 use mathlib.Core.Bool.{Bool, true, false}
 use mathlib.Core.List.{List, [], _∷_}
-use Prim.Native.Nat.{ℕ, _+_, _*_, _<_}
-use lib.IntN.{pos}
-use lib.ListN.{length, getD}
-use Rattle.plane.specs.Point.{Point, PointSet, _+ᵖ_, _-ᵖ_, dilation, erosion, opening, closing}
+use Prim.Native.Nat.{ℕ}
+use Rattle.plane.specs.Point.{Point, PointSet, _+ᵖ_, _-ᵖ_}
 use Rattle.grids.specs.Image.{cells}
-use Rattle.grids.specs.Frame.{frame, occupied}
+use Rattle.grids.specs.Rules.{Makes}
+use Rattle.grids.specs.Frame.{frame}
 use Rattle.grids.specs.Grid.{outsideOf, grid, laid, once}
 use Rattle.grids.specs.declared.Around.{Around}
 use Rattle.grids.specs.declared.Around.the-variants.{Free, Occupied}
@@ -29,22 +27,20 @@ asRead op W H f = frame (outsideOf (around op)) W H f
 
 -- ---- directly
 
--- the set that an operation makes of X and A
-abbrev pub made : Operation → PointSet → PointSet → PointSet
-made Dilation X A = dilation X A
-made Erosion X A = erosion X A
-made Opening X A = opening X A
-made Closing X A = closing X A
+-- the operation makes the picture g of the picture f and the points A, by the rules of document 02, W5; opening is the one rule and then the other on the
+-- plane, and so is closing
+abbrev pub Made : Operation → PointSet → (Point → ℕ) → (Point → ℕ) → Type 0
+Made Dilation A f g = Makes false A f g
+Made Erosion A f g = Makes true A f g
+Made Opening A f g = (h : Point → ℕ) × Makes true A f h × Makes false A h g
+Made Closing A f g = (h : Point → ℕ) × Makes false A f h × Makes true A h g
 
--- a cell's value is 1 if P, and 0 if not
-abbrev pub Says : ℕ → Type 0 → Type 0
-Says v P = ((v ≡ 1) × P) ⊎ ((v ≡ 0) × ¬ P)
-
--- what the shape with the points A gives directly, as W × H cells r: X is the set of points whose cell reads as occupied in the operation's call, and
--- cell (x, y) is 1 if (x, y) lies in the set that the operation makes of X and A, and 0 if not
+-- what the shape with the points A gives directly, as W × H cells r: the picture that the operation makes of the frame as its call reads it, cut to the frame
+-- at the end
 pub record Direct (op : Operation) (W H : ℕ) (f : List ℕ) (A : PointSet) (r : List ℕ) : Type 0 where
-  pub size : length r ≡ W * H
-  pub cell : (x y : ℕ) → x < W → y < H → Says (getD r (y * W + x) 0) (made op (occupied (asRead op W H f)) A (pos x, pos y))
+  pub picture : Point → ℕ
+  pub made : Made op A (asRead op W H f) picture
+  pub cut : r ≡ cells W H picture
 
 -- ---- in turn
 

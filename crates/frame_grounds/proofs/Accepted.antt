@@ -26,6 +26,10 @@ module _ (w h : ℕ) (f : List ℕ) (z : firstOf (frameTests w h f) ≡ 0) where
   unfolding frameTests
   size-passes = T-false (badSize w h) (frame-clear .0)
 
+  pub length-passes : wrongLength w h f ≡ false
+  unfolding frameTests
+  length-passes = T-false (wrongLength w h f) (frame-clear .1 .0)
+
   pub frame-length : length f ≡ w * h
   unfolding frameTests
   frame-length = eqb→eq (length f) (w * h) (un-not (eqb (length f) (w * h)) (frame-clear .1 .0))

@@ -1,2 +1,3 @@
 pub mod Sides
 pub mod Accepted
+pub mod Looked

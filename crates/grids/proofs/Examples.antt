@@ -1,6 +1,6 @@
--- Worked cases of frames and grids: where the bounds lie, which ground comes first, and what the load, also in ten-thousandths, putting and the single stage
--- give.
+-- Worked cases of frames and grids: where the bounds lie, which ground comes first, and what the load, putting and the single stage give.
 use mathlib.Core.Path.{_≡_, refl, ap, ap₂}
+use mathlib.Core.Logic.{_⊎_, inl, inr, ⊎-elim}
 use mathlib.Core.Bool.{true, false}
 use mathlib.Core.List.{List, [], _∷_, _++_}
 use Prim.Native.Nat.{ℕ, _+_, _*_, _<_}
@@ -10,17 +10,12 @@ use lib.ListN.{take, drop, replicate}
 use Rattle.plane.specs.Point.{_+ᵖ_, negᵖ}
 use Rattle.words.specs.Ground.{firstOf, stated, result, refusal}
 use Rattle.words.specs.declared.Answer.{Answer}
-use Rattle.words.specs.declared.Ground.the-variants.{CellValue}
-use Rattle.words.proofs.Refusals.{ground-small}
 use Rattle.masks.specs.Mask.{maskCells, stage}
-use Rattle.grids.specs.Frame.{frameTests, load, LoadCounted}
+use Rattle.grids.specs.Frame.{greater, lesser, frameTests, load, LoadCounted}
 use Rattle.grids.specs.Grid.{putTests, workTests, stageTests, grid, put, once, FramePut, Staged}
 use Rattle.grids.specs.Image.{cells, valueAt}
-use Rattle.grids.specs.Share.{told, quotient, remainder, TenThousandths, Shared}
+use Rattle.grids.specs.Rules.{Greatest, Least}
 use Rattle.grids.specs.declared.Around.the-variants.{Free, Occupied}
-use Rattle.grids.specs.declared.Share.{Share}
-use Rattle.grids.specs.declared.Share.the-variants as shares
-use Rattle.grids.specs.declared.Share.the-variants.{Exact}
 
 -- ---- grounds
 
@@ -33,17 +28,17 @@ side-241 : firstOf (frameTests 241 1 []) ≡ 11
 unfolding frameTests
 side-241 = refl
 
--- no columns give 11, a wrong length comes before a cell above 1
+-- no columns give 11, a wrong length comes before a cell above 2
 side-0 : firstOf (frameTests 0 1 []) ≡ 11
 unfolding frameTests
 side-0 = refl
 
-length-first : firstOf (frameTests 2 1 (2 ∷ [])) ≡ 12
+length-first : firstOf (frameTests 2 1 (3 ∷ [])) ≡ 12
 unfolding frameTests
 length-first = refl
 
--- a cell above 1 comes before an image that is too short
-cell-first : firstOf (putTests 1 1 (2 ∷ []) []) ≡ 13
+-- a cell above 2 comes before an image that is too short
+cell-first : firstOf (putTests 1 1 (3 ∷ []) []) ≡ 13
 unfolding putTests
 cell-first = refl
 
@@ -56,7 +51,7 @@ unfolding putTests
 image-256 = refl
 
 -- a frame and two images: the frame's grounds in order, then either image
-work-order : (firstOf (workTests 0 1 (2 ∷ []) [] []) ≡ 11) × (firstOf (workTests 2 1 (2 ∷ []) [] []) ≡ 12) × (firstOf (workTests 1 1 (2 ∷ []) [] []) ≡ 13)
+work-order : (firstOf (workTests 0 1 (3 ∷ []) [] []) ≡ 11) × (firstOf (workTests 2 1 (3 ∷ []) [] []) ≡ 12) × (firstOf (workTests 1 1 (3 ∷ []) [] []) ≡ 13)
 unfolding workTests
 work-order = (refl, refl, refl)
 
@@ -65,29 +60,29 @@ work-images : (firstOf (workTests 1 1 (1 ∷ []) (replicate 255 7) (replicate 25
 unfolding workTests
 work-images = (refl, refl)
 
--- a single stage: a plan's place word, a bit too many, a mask that isn't normal, no columns, a byte above 1 as far as the image goes, two short images
-stage-kind : firstOf (stageTests 0x40000003 0 1 (2 ∷ []) []) ≡ 2
+-- a single stage: a plan's place word, a bit too many, a mask that isn't normal, no columns, a byte above 2 as far as the image goes, two short images
+stage-kind : firstOf (stageTests 0x40000003 0 1 (3 ∷ []) []) ≡ 2
 unfolding stageTests
 stage-kind = refl
 
-stage-bit : firstOf (stageTests 0x50000202 0 1 (2 ∷ []) []) ≡ 3
+stage-bit : firstOf (stageTests 0x50000202 0 1 (3 ∷ []) []) ≡ 3
 unfolding stageTests
 stage-bit = refl
 
-stage-normal : firstOf (stageTests 0x50000002 0 1 (2 ∷ []) []) ≡ 7
+stage-normal : firstOf (stageTests 0x50000002 0 1 (3 ∷ []) []) ≡ 7
 unfolding stageTests stage
 stage-normal = refl
 
-stage-size : firstOf (stageTests 0x50000003 0 1 (2 ∷ []) []) ≡ 11
+stage-size : firstOf (stageTests 0x50000003 0 1 (3 ∷ []) []) ≡ 11
 unfolding stageTests stage
 stage-size = refl
 
-stage-cell : firstOf (stageTests 0x50000003 1 1 (2 ∷ []) []) ≡ 13
+stage-cell : firstOf (stageTests 0x50000003 1 1 (3 ∷ []) []) ≡ 13
 unfolding stageTests stage
 stage-cell = refl
 
 -- bytes past the grid are not looked at; both images count
-stage-past : firstOf (stageTests 0x50000003 1 1 (replicate 256 0 ++ 2 ∷ []) (replicate 256 7)) ≡ 0
+stage-past : firstOf (stageTests 0x50000003 1 1 (replicate 256 0 ++ 3 ∷ []) (replicate 256 7)) ≡ 0
 unfolding stageTests stage
 stage-past = refl
 
@@ -101,9 +96,28 @@ stage-second = refl
 
 -- ---- what the calls give
 
-load-two : load (1 ∷ 0 ∷ 1 ∷ []) ≡ 2
+-- cells that were not measured are not occupied
+load-two : (load (1 ∷ 0 ∷ 1 ∷ []) ≡ 2) × (load (1 ∷ 2 ∷ 2 ∷ []) ≡ 1)
 unfolding load
-load-two = refl
+load-two = (refl, refl)
+
+-- the values in order: 0, 2, 1
+greater-of : (greater 0 2 ≡ 2) × (greater 2 1 ≡ 1) × (greater 1 0 ≡ 1) × (greater 2 2 ≡ 2)
+greater-of = (refl, refl, refl, refl)
+
+lesser-of : (lesser 0 2 ≡ 0) × (lesser 2 1 ≡ 2) × (lesser 1 0 ≡ 0) × (lesser 1 1 ≡ 1)
+lesser-of = (refl, refl, refl, refl)
+
+-- what the rules give where the covered cells are 0 and 2, and where they are 1 and 2
+dilated-of-0-and-2 : (v : ℕ) → Greatest (λ n. (n ≡ 0) ⊎ (n ≡ 2)) v → v ≡ 2
+dilated-of-0-and-2 v (inl h) = absurd (⊎-elim (λ e. omega arith) (λ e. omega arith) (h .1))
+dilated-of-0-and-2 v (inr (inl h)) = h .0
+dilated-of-0-and-2 v (inr (inr h)) = absurd (h .2 (inr refl))
+
+eroded-of-1-and-2 : (v : ℕ) → Least (λ n. (n ≡ 1) ⊎ (n ≡ 2)) v → v ≡ 2
+eroded-of-1-and-2 v (inl h) = absurd (⊎-elim (λ e. omega arith) (λ e. omega arith) (h .1))
+eroded-of-1-and-2 v (inr (inl h)) = h .0
+eroded-of-1-and-2 v (inr (inr h)) = absurd (h .2 (inr refl))
 
 -- a frame of one cell: the rest of its grid, 16 columns and 16 rows, is 0
 put-one : put Free 1 1 (1 ∷ []) ≡ 1 ∷ replicate 255 0
@@ -144,6 +158,23 @@ outside-read = refl
 outside-free : take 1 (drop 15 (once true Free 1 1 3 (replicate 256 1))) ≡ 0 ∷ []
 unfolding once cells valueAt maskCells _+ᵖ_ negᵖ
 outside-free = refl
+
+-- 2 beside 0 and beside 1, in a grid of free cells: dilated it spreads over 0 and yields to 1, eroded it yields to 0 and comes over 1
+dilated-unmeasured : take 4 (once false Free 1 1 3 (2 ∷ 1 ∷ replicate 254 0)) ≡ 2 ∷ 1 ∷ 1 ∷ 0 ∷ []
+unfolding once cells valueAt maskCells _+ᵖ_ negᵖ
+dilated-unmeasured = refl
+
+dilated-over-free : take 3 (once false Free 1 1 3 (2 ∷ replicate 255 0)) ≡ 2 ∷ 2 ∷ 0 ∷ []
+unfolding once cells valueAt maskCells _+ᵖ_ negᵖ
+dilated-over-free = refl
+
+eroded-unmeasured : take 3 (once true Free 1 1 3 (1 ∷ 2 ∷ 1 ∷ 1 ∷ replicate 252 0)) ≡ 2 ∷ 2 ∷ 1 ∷ []
+unfolding once cells valueAt maskCells _+ᵖ_ negᵖ
+eroded-unmeasured = refl
+
+eroded-to-free : take 2 (once true Free 1 1 3 (2 ∷ 0 ∷ replicate 254 1)) ≡ 0 ∷ 0 ∷ []
+unfolding once cells valueAt maskCells _+ᵖ_ negᵖ
+eroded-to-free = refl
 
 -- ---- the second kind of grid
 
@@ -191,17 +222,22 @@ cell-255 : firstOf (frameTests 1 1 (255 ∷ [])) ≡ 13
 unfolding frameTests
 cell-255 = refl
 
-put-order : (firstOf (putTests 0 1 (2 ∷ []) []) ≡ 11) × (firstOf (putTests 2 1 (2 ∷ []) []) ≡ 12)
+-- 2 passes, and 3 is the first that does not
+cell-2 : (firstOf (frameTests 1 1 (2 ∷ [])) ≡ 0) × (firstOf (frameTests 1 1 (3 ∷ [])) ≡ 13)
+unfolding frameTests
+cell-2 = (refl, refl)
+
+put-order : (firstOf (putTests 0 1 (3 ∷ []) []) ≡ 11) × (firstOf (putTests 2 1 (3 ∷ []) []) ≡ 12)
 unfolding putTests
 put-order = (refl, refl)
 
-stage-kind-first : firstOf (stageTests 0x40000200 0 1 (2 ∷ []) []) ≡ 2
+stage-kind-first : firstOf (stageTests 0x40000200 0 1 (3 ∷ []) []) ≡ 2
 unfolding stageTests
 stage-kind-first = refl
 
 -- ---- what each call answers and leaves
 
-counts : (r : Answer) → LoadCounted 3 1 (1 ∷ 0 ∷ 1 ∷ []) r → stated r ≡ result 2
+counts : (r : Answer) → LoadCounted 4 1 (1 ∷ 0 ∷ 2 ∷ 1 ∷ []) r → stated r ≡ result 2
 unfolding frameTests load
 counts r p = p .done refl
 
@@ -214,7 +250,7 @@ puts : (r : Answer) (i′ : List ℕ) → FramePut Free 1 2 (0 ∷ 1 ∷ []) (re
 unfolding putTests put cells valueAt _+ᵖ_ negᵖ
 puts r i′ p = (p .done refl .answer, p .done refl .image)
 
-puts-not : (r : Answer) (i′ : List ℕ) → FramePut Free 1 1 (2 ∷ []) (replicate 256 7) r i′ → (stated r ≡ refusal 13) × (i′ ≡ replicate 256 7)
+puts-not : (r : Answer) (i′ : List ℕ) → FramePut Free 1 1 (3 ∷ []) (replicate 256 7) r i′ → (stated r ≡ refusal 13) × (i′ ≡ replicate 256 7)
 unfolding putTests
 puts-not r i′ p = p .refused (λ e. let n : _≡_ {A = ℕ} 13 0 = e in omega arith)
 
@@ -229,43 +265,6 @@ stages-erosion : (r : Answer) (i′ : List ℕ) → Staged true Free 0x50000003 
 unfolding stageTests stage once cells valueAt maskCells _+ᵖ_ negᵖ
 stages-erosion r i′ p = ap (take 17) (p .done refl .image)
 
-stages-not : (r : Answer) (i′ : List ℕ) → Staged true Free 0x50000003 1 1 (2 ∷ []) (replicate 256 7) r i′ → (stated r ≡ refusal 13) × (i′ ≡ replicate 256 7)
+stages-not : (r : Answer) (i′ : List ℕ) → Staged true Free 0x50000003 1 1 (3 ∷ []) (replicate 256 7) r i′ → (stated r ≡ refusal 13) × (i′ ≡ replicate 256 7)
 unfolding stageTests stage
 stages-not r i′ p = p .refused (λ e. let n : _≡_ {A = ℕ} 13 0 = e in omega arith)
-
--- ---- the load in ten-thousandths
-
--- what an answer says, by its case
-share-says : (told (Exact 3 4) ≡ (0, 3, 4)) × (told (shares.Refused CellValue) ≡ (13, 0, 0))
-share-says = (refl, refl)
-
--- two cells of three: 20,000 = 6,666 × 3 + 2
-share-two : (a : Share) → Shared 3 1 (1 ∷ 0 ∷ 1 ∷ []) a → a ≡ Exact 6666 2
-unfolding frameTests load
-share-two a p = go a (p .done refl)
-  where
-    go : (a : Share) → TenThousandths 3 1 (1 ∷ 0 ∷ 1 ∷ []) a → a ≡ Exact 6666 2
-    go (Exact q r) t =
-        let whole : q * 3 + r ≡ 20000 = t .whole in
-        let below : r < 3 = t .below in
-        let e : q ≡ 6666 = omega arith in
-        let f : r ≡ 2 = omega arith in
-        ap₂ Exact e f
-    go (shares.Refused g) t = absurd (let l = ground-small g .0 in omega (arith, t .answer))
-
--- all of them: 10,000, and nothing remains
-share-all : (a : Share) → Shared 1 2 (1 ∷ 1 ∷ []) a → quotient a ≡ 10000
-unfolding frameTests load
-share-all a p =
-    let whole : quotient a * 2 + remainder a ≡ 20000 = p .done refl .whole in
-    let below : remainder a < 2 = p .done refl .below in
-    omega arith
-
--- no cell: 0, which is no refusal
-share-none : (a : Share) → Shared 1 1 (0 ∷ []) a → told a .0 ≡ 0
-unfolding frameTests
-share-none a p = p .done refl .answer
-
-share-not : (a : Share) → Shared 2 1 (1 ∷ 3 ∷ []) a → told a ≡ (13, 0, 0)
-unfolding frameTests
-share-not a p = p .refused (λ e. let n : _≡_ {A = ℕ} 13 0 = e in omega arith) .0

@@ -9,6 +9,17 @@ use Rattle.plane.proofs.Algebra.{+ᵖ-assoc, +ᵖ-comm, +ᵖ-cancel, subᵖ-can
 use Rattle.masks.specs.Chain.{sums}
 use Rattle.grids.specs.Image.{fold, dilated, eroded}
 
+-- less a sum is less the one and less the other
+pub sub-sum : (p a b : Point) → p -ᵖ (a +ᵖ b) ≡ p -ᵖ a -ᵖ b
+sub-sum p a b =
+    sym (+ᵖ-cancel (p -ᵖ (a +ᵖ b)) a) ∙ sym (+ᵖ-cancel (p -ᵖ (a +ᵖ b) +ᵖ a -ᵖ a) b)
+    ∙ ap (λ x. x -ᵖ b) (swap (p -ᵖ (a +ᵖ b)) a b ∙ ap (λ x. x -ᵖ a) (subᵖ-cancel p (a +ᵖ b)))
+  where
+    swap : (q a b : Point) → q +ᵖ a -ᵖ a +ᵖ b ≡ q +ᵖ (a +ᵖ b) -ᵖ a
+    swap q a b =
+        +ᵖ-assoc (q +ᵖ a) (negᵖ a) b ∙ ap (λ x. q +ᵖ a +ᵖ x) (+ᵖ-comm (negᵖ a) b) ∙ sym (+ᵖ-assoc (q +ᵖ a) b (negᵖ a))
+        ∙ ap (λ x. x -ᵖ a) (+ᵖ-assoc q a b)
+
 -- what a pick of two values must keep to
 pub record Semilattice {A : Type 0} (pick : A → A → A) : Type 0 where
   pub assoc : (a b c : A) → pick (pick a b) c ≡ pick a (pick b c)
@@ -74,17 +85,7 @@ module _ {A : Type 0} (pick : A → A → A) (e : A) (L : Semilattice pick) wher
   pub dilated-sums : (P Q : List Point) (f : Point → A) (p : Point) → dilated pick e (sums P Q) f p ≡ dilated pick e P (dilated pick e Q f) p
   dilated-sums P Q f p =
       fold-sums (λ a. f (p -ᵖ a)) P Q ∙ fold-ext (λ a. fold pick e (map (λ b. f (p -ᵖ (a +ᵖ b))) Q)) (λ a. dilated pick e Q f (p -ᵖ a)) P
-      (λ a. fold-ext (λ b. f (p -ᵖ (a +ᵖ b))) (λ b. f (p -ᵖ a -ᵖ b)) Q (λ b. ap f (law a b)))
-    where
-      law : (a b : Point) → p -ᵖ (a +ᵖ b) ≡ p -ᵖ a -ᵖ b
-      law a b =
-          sym (+ᵖ-cancel (p -ᵖ (a +ᵖ b)) a) ∙ sym (+ᵖ-cancel (p -ᵖ (a +ᵖ b) +ᵖ a -ᵖ a) b)
-          ∙ ap (λ x. x -ᵖ b) (swap (p -ᵖ (a +ᵖ b)) a b ∙ ap (λ x. x -ᵖ a) (subᵖ-cancel p (a +ᵖ b)))
-        where
-          swap : (q a b : Point) → q +ᵖ a -ᵖ a +ᵖ b ≡ q +ᵖ (a +ᵖ b) -ᵖ a
-          swap q a b =
-              +ᵖ-assoc (q +ᵖ a) (negᵖ a) b ∙ ap (λ x. q +ᵖ a +ᵖ x) (+ᵖ-comm (negᵖ a) b) ∙ sym (+ᵖ-assoc (q +ᵖ a) b (negᵖ a))
-              ∙ ap (λ x. x -ᵖ a) (+ᵖ-assoc q a b)
+      (λ a. fold-ext (λ b. f (p -ᵖ (a +ᵖ b))) (λ b. f (p -ᵖ a -ᵖ b)) Q (λ b. ap f (sub-sum p a b)))
 
   pub eroded-sums : (P Q : List Point) (f : Point → A) (p : Point) → eroded pick e (sums P Q) f p ≡ eroded pick e P (eroded pick e Q f) p
   eroded-sums P Q f p =

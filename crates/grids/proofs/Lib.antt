@@ -1,7 +1,10 @@
 pub mod Fold
+pub mod Values
+pub mod Rules
 pub mod Pictures
 pub mod Stage
 pub mod Putting
 pub mod Load
 pub mod Shares
 pub mod Examples
+pub mod ShareExamples

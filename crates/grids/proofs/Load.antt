@@ -1,6 +1,7 @@
--- The load is the number of the frame's points whose cell is occupied: the frame's cells are the picture's at these points, one after the other.
+-- The load is the number of the frame's points whose cell is occupied, and so it is with those that were measured: the frame's cells are the picture's at
+-- these points, one after the other.
 use mathlib.Core.Path.{_≡_, refl, sym, _∙_, ap, subst}
-use mathlib.Core.Bool.{Bool, true, false, cond}
+use mathlib.Core.Bool.{Bool, true, false, cond, not}
 use mathlib.Core.List.{List, [], _∷_, map}
 use Prim.Native.Nat.{ℕ, zero, suc, _*_, _<_}
 use native.Mathlib.Nat.{mul-comm}
@@ -9,7 +10,8 @@ use lib.ListN.{length, getD, length-map}
 use lib.Seq.{ext-getD}
 use Rattle.plane.specs.Lists.{keep}
 use Rattle.plane.specs.Point.{Point, origin}
-use Rattle.grids.specs.Frame.{free, full, frame, load}
+use Rattle.grids.specs.Frame.{free, full, unmeasured, frame, load}
+use Rattle.grids.specs.Share.{measured}
 use Rattle.grids.specs.Image.{cells}
 use Rattle.grids.proofs.Pictures.{at-places, cells-view, getD-cells, length-cells}
 
@@ -38,8 +40,16 @@ keep-map q F (p ∷ l) = go (q (F p)) (keep-map q F l)
     go true e = ap suc e
     go false e = e
 
+-- the cells that pass a test are as many as the points whose cell does
+kept-points : (q : ℕ → Bool) (W H : ℕ) (f : List ℕ) → length f ≡ W * H → length (keep q f) ≡ length (keep (λ p. q (frame free W H f p)) (cells W H (λ p. p)))
+kept-points q W H f e =
+    ap (λ l. length (keep q l)) (sym (cells-map W H (frame free W H f) ∙ cells-view free W H f e)) ∙ keep-map q (frame free W H f) (cells W H (λ p. p))
+
 pub load-points : (W H : ℕ) (f : List ℕ) → length f ≡ W * H → load f ≡ length (keep (λ p. eqb (frame free W H f p) full) (cells W H (λ p. p)))
 unfolding load
-load-points W H f e =
-    ap (λ l. length (keep (λ v. eqb v full) l)) (sym (cells-map W H (frame free W H f) ∙ cells-view free W H f e))
-    ∙ keep-map (λ v. eqb v full) (frame free W H f) (cells W H (λ p. p))
+load-points W H f e = kept-points (λ v. eqb v full) W H f e
+
+pub measured-points : (W H : ℕ) (f : List ℕ) → length f ≡ W * H
+    → measured f ≡ length (keep (λ p. not (eqb (frame free W H f p) unmeasured)) (cells W H (λ p. p)))
+unfolding measured
+measured-points W H f e = kept-points (λ v. not (eqb v unmeasured)) W H f e

@@ -14,7 +14,8 @@ use Rattle.grids.specs.Grid.{outsideOf, startOf, corner, gridBytes, grid
 use Rattle.grids.specs.declared.Around.{Around}
 use Rattle.grids.specs.declared.Around.the-variants.{Free, Occupied}
 use Rattle.grids.proofs.Pictures.{inside, Within, inside-add, view-outside, view-within}
-use Rattle.grids.proofs.Stage.{Binary, view-binary, outside-low}
+use Rattle.grids.proofs.Stage.{view-upto, outside-low}
+use Rattle.grids.proofs.Values.{Upto}
 
 -- a picture that is free outside a window is free outside a larger one
 pub within-more : (f : Point → ℕ) (W H a b : ℕ) → Within 0 W H f → Within 0 (W + a) (H + b) f
@@ -51,14 +52,17 @@ within-grid k W H f w p t =
 
 -- ---- frames
 
--- bytes that are at most 1, whatever is read past them
-low-past : (v : ℕ) → v ≤ 1 → (f : List ℕ) → ((i : ℕ) → getD f i 0 ≤ 1) → (i : ℕ) → getD f i v ≤ 1
-low-past v l [] b i = l
-low-past v l (a ∷ f) b zero = b 0
-low-past v l (a ∷ f) b (suc i) = low-past v l f (λ j. b (suc j)) i
+-- bytes that are at most n, whatever is read past them
+low-past : (n v : ℕ) → v ≤ n → (f : List ℕ) → ((i : ℕ) → getD f i 0 ≤ n) → (i : ℕ) → getD f i v ≤ n
+low-past n v l [] b i = l
+low-past n v l (a ∷ f) b zero = b 0
+low-past n v l (a ∷ f) b (suc i) = low-past n v l f (λ j. b (suc j)) i
 
-pub frame-binary : (k : Around) (W H : ℕ) (f : List ℕ) → ((i : ℕ) → getD f i 0 ≤ 1) → Binary (frame (outsideOf k) W H f)
-frame-binary k W H f b = view-binary (outsideOf k) W H f (outside-low k) (λ i h. low-past (outsideOf k) (outside-low k) f b i)
+pub frame-upto : (n : ℕ) → 1 ≤ n → (k : Around) (W H : ℕ) (f : List ℕ) → ((i : ℕ) → getD f i 0 ≤ n) → Upto n (frame (outsideOf k) W H f)
+frame-upto n one k W H f b = view-upto n (outsideOf k) W H f low (λ i h. low-past n (outsideOf k) low f b i)
+  where
+    low : outsideOf k ≤ n
+    low = let l = outside-low k in omega arith
 
 pub frame-within : (k : Around) (W H : ℕ) (f : List ℕ) → Within (outsideOf k) W H (frame (outsideOf k) W H f)
 frame-within k W H f = view-outside (outsideOf k) W H f
@@ -70,3 +74,8 @@ put-whole k W H f = laid-whole k W H (frame (outsideOf k) W H f) (within-grid k 
 pub put-bytes : (k : Around) (W H : ℕ) (f : List ℕ) → gridBytes k W H (put k W H f) ≡ (λ q. frame (outsideOf k) W H f (q -ᵖ corner k))
 unfolding put
 put-bytes k W H f = laid-bytes k W H (frame (outsideOf k) W H f) (within-grid k W H (frame (outsideOf k) W H f) (frame-within k W H f))
+
+-- the grid that a frame is put into has no byte above its cells
+pub put-upto : (n : ℕ) → 1 ≤ n → (k : Around) (W H : ℕ) (f : List ℕ) → ((i : ℕ) → getD f i 0 ≤ n) → Upto n (gridBytes k W H (put k W H f))
+put-upto n l k W H f b p =
+    subst (λ (g : Point → ℕ). g p ≤ n) (sym (put-bytes k W H f)) (frame-upto n l k W H f b (p -ᵖ corner k))

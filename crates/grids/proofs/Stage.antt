@@ -1,108 +1,75 @@
--- Pictures whose values are 0 or 1: dilation is ⊕ and erosion ⊖ of the occupied points. So a single stage is Minkowski's sum or difference with the
--- mask's points, cut to the grid, whatever the value outside.
-use mathlib.Core.Path.{_≡_, refl, sym, _∙_, ap, subst, fun-ext}
-use mathlib.Core.Logic.{_↔_, _⊎_, inl, inr}
-use mathlib.Core.Bool.{Bool, true, false, not, _&&_}
+-- The single stage, on pictures whose values are no higher than a cell may be: at each byte it is what the rule gives of the mask's points, cut to the grid,
+-- whatever the value outside.
+use mathlib.Core.Path.{_≡_, refl, sym, _∙_, ap, ap₂, subst, fun-ext}
+use mathlib.Core.Logic.{inl, inr}
+use mathlib.Core.Bool.{Bool, true, false, not, _&&_, cond}
 use mathlib.Core.List.{List, [], _∷_, map}
 use Prim.Native.Nat.{ℕ, zero, suc, _+_, _*_, _≤_, _<_, zero-le}
 use native.Mathlib.Omega.{arith}
-use native.Mathlib.Decide.{ℕ-discrete}
 use native.Mathlib.Nat.{le-refl, mul-comm, mul-le-mul-right}
 use lib.Dec.{T, ltb, ltb→lt, nltb→le}
 use lib.IntN.{ℤ, pos, negsuc}
 use lib.ListN.{length, getD, take}
 use lib.Seq.{getD-take}
 use Rattle.plane.specs.Lists.{In}
-use Rattle.plane.specs.Point.{Point, _+ᵖ_, negᵖ, _-ᵖ_, _≐_, _⊕_, _⊖_}
-use Rattle.plane.proofs.Algebra.{+ᵖ-assoc, +ᵖ-comm, +ᵖ-cancel, subᵖ-cancel}
+use Rattle.plane.specs.Point.{Point, _+ᵖ_, negᵖ, _-ᵖ_}
+use Rattle.plane.proofs.Algebra.{+ᵖ-assoc, +ᵖ-comm, subᵖ-cancel}
 use Rattle.plane.proofs.Tests.{T-and, not-or, cond-ind}
 use Rattle.masks.specs.Mask.{maskPoints, Mask}
-use Rattle.grids.specs.Frame.{free, full, greater, lesser, over, occupied, badCell, gridSize}
+use Rattle.grids.specs.Frame.{free, full, highest, greater, lesser, over, badCell, gridSize}
 use Rattle.grids.specs.Grid.{outsideOf, corner, gridBytes, grid, laid, once}
 use Rattle.grids.specs.declared.Around.{Around}
 use Rattle.grids.specs.declared.Around.the-variants.{Free, Occupied}
 use Rattle.grids.specs.Image.{valueAt, view, cells, fold, dilated, eroded}
-use Rattle.grids.proofs.Fold.{Semilattice, absorb}
-use Rattle.grids.proofs.Pictures.{getD-cells, length-cells}
-
-pub greater-laws : Semilattice greater
-greater-laws = record { assoc = λ a b c. omega arith; comm = λ a b. omega arith; idem = λ a. omega arith }
-
-pub lesser-laws : Semilattice lesser
-lesser-laws = record { assoc = λ a b c. omega arith; comm = λ a b. omega arith; idem = λ a. omega arith }
+use Rattle.grids.specs.Rules.{Gives}
+use Rattle.grids.proofs.Fold.{absorb}
+use Rattle.grids.proofs.Values.{Upto, lesser-laws, greater-low, lesser-low}
+use Rattle.grids.proofs.Rules.{over-makes}
+use Rattle.grids.proofs.Pictures.{inside, getD-cells, length-cells, view-cells}
 
 -- ---- values
 
--- 0 or 1
-abbrev pub Binary : (Point → ℕ) → Type 0
-Binary f = (p : Point) → f p ≤ 1
-
 module _ {B : Type 0} (g : B → ℕ) where
-  greatest-le : (P : List B) → ((b : B) → g b ≤ 1) → fold greater free (map g P) ≤ 1
-  greatest-le [] h = zero-le
-  greatest-le (b ∷ P) h = let r = greatest-le P h in let s = h b in omega arith
+  greatest-le : (n : ℕ) (P : List B) → ((b : B) → g b ≤ n) → fold greater free (map g P) ≤ n
+  greatest-le n [] h = zero-le
+  greatest-le n (b ∷ P) h = greater-low n (g b) (fold greater free (map g P)) (h b) (greatest-le n P h)
 
-  least-le : (P : List B) → fold lesser full (map g P) ≤ 1
-  least-le [] = le-refl 1
-  least-le (b ∷ P) = let r = least-le P in omega arith
+  least-le : (n : ℕ) → 1 ≤ n → (P : List B) → ((b : B) → g b ≤ n) → fold lesser full (map g P) ≤ n
+  least-le n l [] h = l
+  least-le n l (b ∷ P) h = lesser-low n (g b) (fold lesser full (map g P)) (h b) (least-le n l P h)
 
   pub greatest-zero : (P : List B) → ((b : B) → In P b → g b ≡ 0) → fold greater free (map g P) ≡ 0
   greatest-zero [] h = refl
-  greatest-zero (b ∷ P) h = let r = greatest-zero P (λ c k. h c (inr k)) in let s = h b (inl refl) in omega arith
+  greatest-zero (b ∷ P) h = ap₂ greater (h b (inl refl)) (greatest-zero P (λ c k. h c (inr k)))
 
   pub least-zero : (P : List B) (b : B) → In P b → g b ≡ 0 → fold lesser full (map g P) ≡ 0
-  least-zero P b h e = let r = absorb lesser full lesser-laws g P b h in omega arith
-
-  greatest-one : (P : List B) → fold greater free (map g P) ≡ 1 → (b : B) × In P b × (g b ≡ 1)
-  greatest-one [] e = absurd (let z : 0 ≡ 1 = e in omega arith)
-  greatest-one (b ∷ P) e = go (ℕ-discrete (g b) 1) (greatest-one P)
-    where
-      go : Dec (g b ≡ 1) → (fold greater free (map g P) ≡ 1 → (c : B) × In P c × (g c ≡ 1)) → (c : B) × ((c ≡ b) ⊎ In P c) × (g c ≡ 1)
-      go (yes q) r = (b, inl refl, q)
-      go (no q) r = let s = r (omega arith) in (s .0, inr (s .1), s .2)
+  least-zero P b h e = sym (absorb lesser full lesser-laws g P b h) ∙ ap (λ n. lesser n (fold lesser full (map g P))) e
 
   pub least-one : (P : List B) → ((b : B) → In P b → g b ≡ 1) → fold lesser full (map g P) ≡ 1
   least-one [] h = refl
-  least-one (b ∷ P) h = let r = least-one P (λ c k. h c (inr k)) in let s = h b (inl refl) in omega arith
+  least-one (b ∷ P) h = ap₂ lesser (h b (inl refl)) (least-one P (λ c k. h c (inr k)))
 
-pub over-binary : (erode : Bool) (P : List Point) (f : Point → ℕ) → Binary f → Binary (over erode P f)
-over-binary true P f b p = least-le (λ a. f (p +ᵖ a)) P
-over-binary false P f b p = greatest-le (λ a. f (p -ᵖ a)) P (λ a. b (p -ᵖ a))
-
--- ---- sets
-
-pub D-set : (P : List Point) (f : Point → ℕ) → Binary f → occupied (dilated greater free P f) ≐ occupied f ⊕ In P
-D-set P f b p = (
-  λ e. let r = greatest-one (λ a. f (p -ᵖ a)) P e in (p -ᵖ r .0, r .0, r .2, r .1, subᵖ-cancel p (r .0)),
-  λ h. let q : f (p -ᵖ h .1) ≡ 1 = subst (λ x. f x ≡ 1) (sym (+ᵖ-cancel (h .0) (h .1)) ∙ ap (λ x. x -ᵖ h .1) (h .4)) (h .2) in
-      let r = absorb greater free greater-laws (λ a. f (p -ᵖ a)) P (h .1) (h .3) in
-      let s = greatest-le (λ a. f (p -ᵖ a)) P (λ a. b (p -ᵖ a)) in
-      omega arith,
-)
-
-pub E-set : (P : List Point) (f : Point → ℕ) → Binary f → occupied (eroded lesser full P f) ≐ occupied f ⊖ In P
-E-set P f b p = (
-  λ e a h. let r = absorb lesser full lesser-laws (λ c. f (p +ᵖ c)) P a h in let s = b (p +ᵖ a) in omega arith,
-  λ h. least-one (λ a. f (p +ᵖ a)) P h,
-)
+pub over-upto : (n : ℕ) → 1 ≤ n → (erode : Bool) (P : List Point) (f : Point → ℕ) → Upto n f → Upto n (over erode P f)
+over-upto n l true P f b p = least-le (λ a. f (p +ᵖ a)) n l P (λ a. b (p +ᵖ a))
+over-upto n l false P f b p = greatest-le (λ a. f (p -ᵖ a)) n P (λ a. b (p -ᵖ a))
 
 -- ---- bytes
 
--- where no byte is above 1, none that is read is
-pub bytes-binary : (v : ℕ) → v ≤ 1 → (g : List ℕ) → T (not (badCell g)) → (i : ℕ) → getD g i v ≤ 1
-bytes-binary v l [] t i = l
-bytes-binary v l (a ∷ g) t zero = nltb→le full a (not-or (ltb full a) (badCell g) .0 t .0)
-bytes-binary v l (a ∷ g) t (suc i) = bytes-binary v l g (not-or (ltb full a) (badCell g) .0 t .1) i
+-- where no byte is above 2, none that is read is
+pub bytes-upto : (v : ℕ) → v ≤ highest → (g : List ℕ) → T (not (badCell g)) → (i : ℕ) → getD g i v ≤ highest
+bytes-upto v l [] t i = l
+bytes-upto v l (a ∷ g) t zero = nltb→le highest a (not-or (ltb highest a) (badCell g) .0 t .0)
+bytes-upto v l (a ∷ g) t (suc i) = bytes-upto v l g (not-or (ltb highest a) (badCell g) .0 t .1) i
 
-pub view-binary : (v W H : ℕ) (l : List ℕ) → v ≤ 1 → ((i : ℕ) → i < H * W → getD l i v ≤ 1) → Binary (view v W H l)
+pub view-upto : (n v W H : ℕ) (l : List ℕ) → v ≤ n → ((i : ℕ) → i < H * W → getD l i v ≤ n) → Upto n (view v W H l)
 unfolding valueAt
-view-binary v W H l low h p = go (p .0) (p .1)
+view-upto n v W H l low h p = go (p .0) (p .1)
   where
     place : (x y : ℕ) → x < W → y < H → y * W + x < H * W
     place x y j k = let r = mul-le-mul-right {m = suc y} {n = H} W k in omega arith
 
-    go : (x y : ℤ) → valueAt v W H l x y ≤ 1
-    go (pos x) (pos y) = cond-ind (ltb x W && ltb y H) (getD l (y * W + x) v) v (λ n. n ≤ 1) (λ t.
+    go : (x y : ℤ) → valueAt v W H l x y ≤ n
+    go (pos x) (pos y) = cond-ind (ltb x W && ltb y H) (getD l (y * W + x) v) v (λ k. k ≤ n) (λ t.
         let u = T-and (ltb x W) (ltb y H) .0 t in h (y * W + x) (place x y (ltb→lt x W (u .0)) (ltb→lt y H (u .1)))) (λ t. low)
     go (pos x) (negsuc y) = low
     go (negsuc x) y = low
@@ -155,27 +122,39 @@ pub outside-low : (k : Around) → outsideOf k ≤ 1
 outside-low Free = zero-le
 outside-low Occupied = le-refl 1
 
--- where the grid's bytes, read as far as its image goes, are at most 1, so is every cell of it on the plane
-pub grid-binary : (k : Around) (W H : ℕ) (g : List ℕ) → T (not (badCell (take (gridSize W H) g))) → Binary (grid k W H g)
-grid-binary k W H g clean p = view-binary v (W + 15) (H + 15) g low (λ i h.
-    subst (λ n. n ≤ 1) (getD-take (gridSize W H) g i v (subst (λ n. i < n) (mul-comm (H + 15) (W + 15)) h))
-    (bytes-binary v low (take (gridSize W H) g) clean i)) (p +ᵖ corner k)
+-- where no byte of the grid, read as far as its image goes, is above 2, none that is read is
+pub grid-bytes-upto : (k : Around) (W H : ℕ) (g : List ℕ) → T (not (badCell (take (gridSize W H) g))) → Upto highest (gridBytes k W H g)
+grid-bytes-upto k W H g clean = view-upto highest v (W + 15) (H + 15) g low (λ i h.
+    subst (λ n. n ≤ highest) (getD-take (gridSize W H) g i v (subst (λ n. i < n) (mul-comm (H + 15) (W + 15)) h))
+    (bytes-upto v low (take (gridSize W H) g) clean i))
   where
     v : ℕ
     v = outsideOf k
 
-    low : v ≤ 1
-    low = outside-low k
+    low : v ≤ highest
+    low = let l = outside-low k in omega arith
 
-module _ (k : Around) (W H m : ℕ) (g : List ℕ) (clean : T (not (badCell (take (gridSize W H) g)))) where
-  pub once-dilation : (x y : ℕ) → x < W + 15 → y < H + 15
-      → (getD (once false k W H m g) (y * (W + 15) + x) 0 ≡ 1) ↔ (occupied (grid k W H g) ⊕ Mask m) ((pos x, pos y) -ᵖ corner k)
-  once-dilation x y h l =
-      subst (λ n. (n ≡ 1) ↔ (occupied (grid k W H g) ⊕ Mask m) ((pos x, pos y) -ᵖ corner k)) (sym (once-cell false k W H m g x y h l))
-      (D-set (maskPoints m) (grid k W H g) (grid-binary k W H g clean) ((pos x, pos y) -ᵖ corner k))
+pub grid-upto : (k : Around) (W H : ℕ) (g : List ℕ) → T (not (badCell (take (gridSize W H) g))) → Upto highest (grid k W H g)
+grid-upto k W H g clean p = grid-bytes-upto k W H g clean (p +ᵖ corner k)
 
-  pub once-erosion : (x y : ℕ) → x < W + 15 → y < H + 15
-      → (getD (once true k W H m g) (y * (W + 15) + x) 0 ≡ 1) ↔ (occupied (grid k W H g) ⊖ Mask m) ((pos x, pos y) -ᵖ corner k)
-  once-erosion x y h l =
-      subst (λ n. (n ≡ 1) ↔ (occupied (grid k W H g) ⊖ Mask m) ((pos x, pos y) -ᵖ corner k)) (sym (once-cell true k W H m g x y h l))
-      (E-set (maskPoints m) (grid k W H g) (grid-binary k W H g clean) ((pos x, pos y) -ᵖ corner k))
+-- and no stage gives a byte above n where there was none
+pub once-upto : (n : ℕ) → 1 ≤ n → (erode : Bool) (k : Around) (W H m : ℕ) (g : List ℕ) → Upto n (gridBytes k W H g)
+    → Upto n (gridBytes k W H (once erode k W H m g))
+once-upto n h erode k W H m g b p =
+    subst (λ (x : ℕ). x ≤ n)
+    (sym (ap (λ l. gridBytes k W H l p) (once-bytes erode k W H m g) ∙ view-cells (outsideOf k) (W + 15) (H + 15) made p))
+    (either (inside (W + 15) (H + 15) p) (made p) (over-upto n h erode (maskPoints m) (gridBytes k W H g) b p))
+  where
+    made : Point → ℕ
+    made = over erode (maskPoints m) (gridBytes k W H g)
+
+    either : (c : Bool) (x : ℕ) → x ≤ n → cond c x (outsideOf k) ≤ n
+    either true x l = l
+    either false x l = omega (arith, outside-low k)
+
+-- each byte that a stage writes is what the rule gives of the grid read
+pub once-gives : (erode : Bool) (k : Around) (W H m : ℕ) (g : List ℕ) → T (not (badCell (take (gridSize W H) g))) → (x y : ℕ) → x < W + 15 → y < H + 15
+    → Gives erode (Mask m) (grid k W H g) ((pos x, pos y) -ᵖ corner k) (getD (once erode k W H m g) (y * (W + 15) + x) 0)
+once-gives erode k W H m g clean x y h l =
+    subst (Gives erode (Mask m) (grid k W H g) ((pos x, pos y) -ᵖ corner k)) (sym (once-cell erode k W H m g x y h l))
+    (over-makes erode (maskPoints m) (grid k W H g) (grid-upto k W H g clean) ((pos x, pos y) -ᵖ corner k))

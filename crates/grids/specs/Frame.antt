@@ -2,7 +2,7 @@
 use mathlib.Core.Path.{_≡_}
 use mathlib.Core.Bool.{Bool, true, false, not, _||_}
 use mathlib.Core.List.{List, [], _∷_}
-use Prim.Native.Nat.{ℕ, _+_, _*_, min, max}
+use Prim.Native.Nat.{ℕ, zero, suc, _+_, _*_, min, max}
 use lib.Dec.{ltb, eqb}
 use lib.ListN.{length}
 use Rattle.plane.specs.Lists.{any, keep}
@@ -11,23 +11,31 @@ use Rattle.words.specs.Ground.{Test, stated, result, Answered}
 use Rattle.words.specs.declared.Answer.{Answer}
 use Rattle.grids.specs.Image.{view, taken}
 
--- one byte a cell: 0 free, 1 occupied; free is the least value and full the greatest
+-- one byte a cell: 0 free, 1 occupied, 2 not measured (document 02, W5). In order they are 0, 2, 1: free is the least value and full the greatest
 abbrev pub free : ℕ
 free = 0
 
 abbrev pub full : ℕ
 full = 1
 
+abbrev pub unmeasured : ℕ
+unmeasured = 2
+
 -- the highest byte that a cell may be
 abbrev pub highest : ℕ
-highest = 1
+highest = 2
 
--- the greater and the lesser of two values
+-- the greater of two values: 1 if either is 1, else 2 if either is 2, else 0, which is the smaller number of those that are not 0
 abbrev pub greater : ℕ → ℕ → ℕ
-greater = max
+greater zero b = b
+greater (suc a) zero = suc a
+greater (suc a) (suc b) = suc (min a b)
 
+-- the lesser of two values: 0 if either is 0, else 2 if either is 2, else 1, which is the larger number
 abbrev pub lesser : ℕ → ℕ → ℕ
-lesser = min
+lesser zero b = zero
+lesser (suc a) zero = zero
+lesser (suc a) (suc b) = suc (max a b)
 
 -- the lesser of two values for erosion, the greater for dilation, and what each begins with
 abbrev pub pickOf : Bool → ℕ → ℕ → ℕ
@@ -63,7 +71,7 @@ badSize W H = badSide W || badSide H
 abbrev pub wrongLength : ℕ → ℕ → List ℕ → Bool
 wrongLength W H f = not (eqb (length f) (W * H))
 
--- ground 13: a cell is above 1
+-- ground 13: a cell is above 2
 abbrev pub badCell : List ℕ → Bool
 badCell f = any (ltb highest) f
 

@@ -1,4 +1,5 @@
 pub mod Image
+pub mod Rules
 pub mod Frame
 pub mod Grid
 pub mod Share

@@ -1,10 +1,12 @@
 -- The bits of a byte that was put together from eight cells.
 use mathlib.Core.Path.{_≡_, ap, _∙_}
+use mathlib.Core.Bool.{Bool}
 use mathlib.Core.List.{List}
-use Prim.Native.Nat.{ℕ, zero, suc, _+_, _*_, _%_, _<_}
+use Prim.Native.Nat.{ℕ, zero, suc, _+_, _*_, _<_}
 use native.Mathlib.Omega.{arith}
 use lib.ListN.{getD}
 use Rattle.rows.specs.Cells.{bit}
+use Rattle.planes.specs.Bits.{levelBit}
 use Rattle.plane_eight_steps.specs.Eights.{Four, Eight, eightBit}
 
 -- four bits, and four above them
@@ -16,8 +18,8 @@ four-above : (u v : ℕ) → v < 16
     → (bit (u * 16 + v) 4 ≡ bit u 0) × (bit (u * 16 + v) 5 ≡ bit u 1) × (bit (u * 16 + v) 6 ≡ bit u 2) × (bit (u * 16 + v) 7 ≡ bit u 3)
 four-above u v l = (omega arith, omega arith, omega arith, omega arith)
 
-pub eight-of : (a b c d e f g h u v : ℕ) → Four e f g h u → Four a b c d v → Eight a b c d e f g h (u * 16 + v)
-eight-of a b c d e f g h u v p q =
+pub eight-of : (some : Bool) (a b c d e f g h u v : ℕ) → Four some e f g h u → Four some a b c d v → Eight some a b c d e f g h (u * 16 + v)
+eight-of some a b c d e f g h u v p q =
     let l = two-fours u v (q .small) in
     let m = four-above u v (q .small) in
     record {
@@ -32,16 +34,16 @@ eight-of a b c d e f g h u v p q =
     }
 
 -- eight cells of a column, w apart
-pub eight-bits : (s : List ℕ) (w k r q : ℕ) → q < 8
-    → Eight (getD s k 0) (getD s (w + k) 0) (getD s (2 * w + k) 0) (getD s (3 * w + k) 0) (getD s (4 * w + k) 0) (getD s (5 * w + k) 0)
+pub eight-bits : (some : Bool) (s : List ℕ) (w k r q : ℕ) → q < 8
+    → Eight some (getD s k 0) (getD s (w + k) 0) (getD s (2 * w + k) 0) (getD s (3 * w + k) 0) (getD s (4 * w + k) 0) (getD s (5 * w + k) 0)
     (getD s (6 * w + k) 0) (getD s (7 * w + k) 0) r
-    → bit r q ≡ eightBit s w k q
-eight-bits s w k r zero l e = let z : k ≡ zero * w + k = omega arith in e .bit0 ∙ ap (λ (n : ℕ). getD s n 0 % 2) z
-eight-bits s w k r (suc zero) l e = let z : w + k ≡ suc zero * w + k = omega arith in e .bit1 ∙ ap (λ (n : ℕ). getD s n 0 % 2) z
-eight-bits s w k r (suc (suc zero)) l e = e .bit2
-eight-bits s w k r (suc (suc (suc zero))) l e = e .bit3
-eight-bits s w k r (suc (suc (suc (suc zero)))) l e = e .bit4
-eight-bits s w k r (suc (suc (suc (suc (suc zero))))) l e = e .bit5
-eight-bits s w k r (suc (suc (suc (suc (suc (suc zero)))))) l e = e .bit6
-eight-bits s w k r (suc (suc (suc (suc (suc (suc (suc zero))))))) l e = e .bit7
-eight-bits s w k r (suc (suc (suc (suc (suc (suc (suc (suc q)))))))) l e = absurd (omega arith)
+    → bit r q ≡ eightBit some s w k q
+eight-bits some s w k r zero l e = let z : k ≡ zero * w + k = omega arith in e .bit0 ∙ ap (λ (n : ℕ). levelBit some (getD s n 0)) z
+eight-bits some s w k r (suc zero) l e = let z : w + k ≡ suc zero * w + k = omega arith in e .bit1 ∙ ap (λ (n : ℕ). levelBit some (getD s n 0)) z
+eight-bits some s w k r (suc (suc zero)) l e = e .bit2
+eight-bits some s w k r (suc (suc (suc zero))) l e = e .bit3
+eight-bits some s w k r (suc (suc (suc (suc zero)))) l e = e .bit4
+eight-bits some s w k r (suc (suc (suc (suc (suc zero))))) l e = e .bit5
+eight-bits some s w k r (suc (suc (suc (suc (suc (suc zero)))))) l e = e .bit6
+eight-bits some s w k r (suc (suc (suc (suc (suc (suc (suc zero))))))) l e = e .bit7
+eight-bits some s w k r (suc (suc (suc (suc (suc (suc (suc (suc q)))))))) l e = absurd (omega arith)

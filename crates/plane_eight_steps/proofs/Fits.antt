@@ -18,7 +18,7 @@ eight-says n m w e =
     (leb→le n w (q .0), leb→le (8 * w) m (p .1))
 
 -- rows that fit were put
-pub eight-done : (w : ℕ) (s d : List ℕ) {b : Bool} {d′ : List ℕ} → length d ≤ w → w ≤ 65535 → 8 * w ≤ length s → EightPut w s d b d′
-    → Bitted 0 (length d) (eightBit s w) d d′
-eight-done w s d l₁ l₂ l₃ g =
+pub eight-done : (some : Bool) (w : ℕ) (s d : List ℕ) {b : Bool} {d′ : List ℕ} → length d ≤ w → w ≤ 65535 → 8 * w ≤ length s → EightPut some w s d b d′
+    → Bitted 0 (length d) (eightBit some s w) d d′
+eight-done some w s d l₁ l₂ l₃ g =
     let e : eightFits (length d) (length s) w ≡ true = rw (le-leb (length d) w l₁, le-leb w 65535 l₂, le-leb (8 * w) (length s) l₃) in g .done (holds e)

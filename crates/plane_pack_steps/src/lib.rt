@@ -1,4 +1,4 @@
-// A frame packed into a plane, eight rows at a time, the lowest bit of each cell: pack.
+// One level of a frame packed into a plane, eight rows at a time: pack.
 ghost use mathlib.Core.Path.{_≡_};
 ghost use Prim.Native.Nat.{_+_, _*_, _≤_, min};
 ghost use lib.Dec.{leb};
@@ -66,20 +66,20 @@ fn rows(a: usize) -> usize
 }
 
 // The next group, of which a rows are left: cells of f from q on, into the bytes of dst from p on, with the bits of outside above them.
-fn next(f: &[u8], dst: &mut [u8], w: usize, a: usize, p: usize, q: usize, outside: u8)
+fn next(f: &[u8], dst: &mut [u8], w: usize, a: usize, p: usize, q: usize, outside: u8, some: bool)
     requires { ⌜ (w ≤ 65535) × (p + w ≤ length (now dst)) × (q + min a 8 * w ≤ length (now f)) ⌝ }
-    ensures { λ _. ⌜ GroupPut w a p q outside (now (f .entry)) (now (dst .entry)) (now (dst .exit)) ⌝ }
+    ensures { λ _. ⌜ GroupPut some w a p q outside (now (f .entry)) (now (dst .entry)) (now (dst .exit)) ⌝ }
 {
     let r = rows(a);
-    plane_group_steps::group(&mut dst[p..p + w], &f[q..q + r * w], w, r, outside);
+    plane_group_steps::group(&mut dst[p..p + w], &f[q..q + r * w], w, r, outside, some);
 }
 
 // The first row of f, w cells, into bit 7 of the bytes of dst from p on: where a frame stands at row 15, that row ends a row of bytes.
-fn lead(f: &[u8], dst: &mut [u8], w: usize, p: usize, outside: u8)
+fn lead(f: &[u8], dst: &mut [u8], w: usize, p: usize, outside: u8, some: bool)
     requires { ⌜ (p + w ≤ length (now dst)) × (w ≤ length (now f)) × (outside ≤ 1) ⌝ }
-    ensures { λ _. ⌜ LeadPut w p outside (now (f .entry)) (now (dst .entry)) (now (dst .exit)) ⌝ }
+    ensures { λ _. ⌜ LeadPut some w p outside (now (f .entry)) (now (dst .entry)) (now (dst .exit)) ⌝ }
 {
-    plane_group_steps::top(&mut dst[p..p + w], &f[0..w], outside);
+    plane_group_steps::top(&mut dst[p..p + w], &f[0..w], outside, some);
 }
 
 // How many rows of the frame stand before the first that begins a row of bytes.
@@ -102,9 +102,11 @@ fn grouped(
     gh: usize,
     far: bool,
     outside: u8,
+    some: bool,
 )
-    requires { ⌜ Packable outside far w h gw gh (now f) (now dst) × (leadOf far ≤ h) × Until outside (placeOf far) w h gw gh (leadOf far) (now f) (now dst) ⌝ }
-    ensures { λ _. ⌜ FramePacked outside far w h gw gh (now (f .entry)) (now (dst .entry)) (now (dst .exit)) ⌝ }
+    requires { ⌜ Packable outside far w h gw gh (now f) (now dst) × (leadOf far ≤ h) ×
+        Until some outside (placeOf far) w h gw gh (leadOf far) (now f) (now dst) ⌝ }
+    ensures { λ _. ⌜ FramePacked some outside far w h gw gh (now (f .entry)) (now (dst .entry)) (now (dst .exit)) ⌝ }
 {
     let s = gw + 2;
     let v = outside * 255;
@@ -112,7 +114,7 @@ fn grouped(
     let mut p = (2 * y + 1) * s + 15 * y + 2;
     let mut q = y * w;
     while y < h {
-        next(f, dst, w, h - y, p, q, v);
+        next(f, dst, w, h - y, p, q, v, some);
         p += s;
         q += 8 * w;
         y += 8;
@@ -120,9 +122,19 @@ fn grouped(
 }
 
 // The value outside everywhere, and then the frame's rows.
-fn fill(f: &[u8], dst: &mut [u8], w: usize, h: usize, gw: usize, gh: usize, far: bool, outside: u8)
+fn fill(
+    f: &[u8],
+    dst: &mut [u8],
+    w: usize,
+    h: usize,
+    gw: usize,
+    gh: usize,
+    far: bool,
+    outside: u8,
+    some: bool,
+)
     requires { ⌜ Packable outside far w h gw gh (now f) (now dst) ⌝ }
-    ensures { λ _. ⌜ FramePacked outside far w h gw gh (now (f .entry)) (now (dst .entry)) (now (dst .exit)) ⌝ }
+    ensures { λ _. ⌜ FramePacked some outside far w h gw gh (now (f .entry)) (now (dst .entry)) (now (dst .exit)) ⌝ }
 {
     let s = gw + 2;
     let n = (gh + 7) / 8;
@@ -132,15 +144,16 @@ fn fill(f: &[u8], dst: &mut [u8], w: usize, h: usize, gw: usize, gh: usize, far:
         return;
     }
     if far {
-        lead(f, dst, w, 2 * s + 17, outside);
-        grouped(f, dst, w, h, gw, gh, far, outside);
+        lead(f, dst, w, 2 * s + 17, outside, some);
+        grouped(f, dst, w, h, gw, gh, far, outside, some);
         return;
     }
-    grouped(f, dst, w, h, gw, gh, far, outside);
+    grouped(f, dst, w, h, gw, gh, far, outside, some);
 }
 
-// Packs the frame of w columns and h rows in f into the plane of gw columns and gh rows in dst, with its cell (0, 0) at that of the plane, or, if far, at
-// (15, 15), and the value outside around it. False, with nothing written, where sizes do not fit, or the value outside is neither 0 nor 1.
+// Packs one level of the frame of w columns and h rows in f, whether cells are 1 or, if some, whether they are not 0, into the plane of gw columns and gh
+// rows in dst, with its cell (0, 0) at that of the plane, or, if far, at (15, 15), and the value outside around it. False, with nothing written, where sizes
+// do not fit, or the value outside is neither 0 nor 1.
 pub fn pack(
     f: &[u8],
     dst: &mut [u8],
@@ -150,12 +163,13 @@ pub fn pack(
     gh: usize,
     far: bool,
     outside: u8,
+    some: bool,
 ) -> bool
-    ensures { λ r. ⌜ Packed outside far w h gw gh (now (f .entry)) (now (dst .entry)) r (now (dst .exit)) ⌝ }
+    ensures { λ r. ⌜ Packed some outside far w h gw gh (now (f .entry)) (now (dst .entry)) r (now (dst .exit)) ⌝ }
 {
     if !pack_fits(w, h, gw, gh, far, outside, f.len(), dst.len()) {
         return false;
     }
-    fill(f, dst, w, h, gw, gh, far, outside);
+    fill(f, dst, w, h, gw, gh, far, outside, some);
     true
 }

@@ -13,7 +13,8 @@ use Rattle.plane.proofs.Tests.{T-and, lt-or-le}
 use Rattle.masks.specs.Mask.{maskCells}
 use Rattle.grids.specs.Image.{view, cells, valueAt}
 use Rattle.cuts.specs.Cuts.{cutOut}
-use Rattle.planes.specs.Planes.{byteRows, planeSize, bitSeen, Shows, packFits, lowBits, afterStage, stageFits, heldAt, planeCells}
+use Rattle.planes.specs.Bits.{ofLevels}
+use Rattle.planes.specs.Planes.{byteRows, planeSize, bitSeen, Shows, packFits, levelBits, afterStage, stageFits, heldAt, planeCells}
 
 -- ---- whether a plane shows a picture, by computing
 
@@ -61,9 +62,13 @@ packed-9 : Shows 3 3 (view 0 3 3 nine) plane9
 unfolding nine plane9 shown below bitSeen valueAt
 packed-9 = shows-by 3 3 (view 0 3 3 nine) plane9 (omega arith) tt
 
--- a cell of 3 is packed as 1, and one of 2 as 0
-low-bits-alone : lowBits (3 ∷ 2 ∷ 1 ∷ 0 ∷ []) ≡ 1 ∷ 0 ∷ 1 ∷ 0 ∷ []
-low-bits-alone = refl
+-- whether cells are 1, and whether they are not 0
+levels-of : (levelBits false (2 ∷ 1 ∷ 0 ∷ []) ≡ 0 ∷ 1 ∷ 0 ∷ []) × (levelBits true (2 ∷ 1 ∷ 0 ∷ []) ≡ 1 ∷ 1 ∷ 0 ∷ [])
+levels-of = (refl, refl)
+
+-- and the cells from both
+of-both : (ofLevels 0 0 ≡ 0) × (ofLevels 1 1 ≡ 1) × (ofLevels 0 1 ≡ 2)
+of-both = (refl, refl, refl)
 
 -- dilated by cells 0 and 1 of a row: nothing is carried past the last column
 dilated-9 : Shows 3 3 (afterStage false 0 3 3 3 (view 0 3 3 nine)) (replicate 7 0 ++ 1 ∷ 3 ∷ 7 ∷ replicate 7 0)
@@ -76,11 +81,16 @@ unfolding nine shown below bitSeen valueAt afterStage cells maskCells _+ᵖ_ neg
 eroded-9 = shows-by 3 3 (afterStage true 1 3 3 3 (view 1 3 3 nine)) (replicate 7 255 ++ 248 ∷ 248 ∷ 253 ∷ replicate 7 255) (omega arith) tt
 
 -- unpacked, whole and one column on
-unpacked-9 : planeCells 3 3 plane9 ≡ nine
+unpacked-9 : planeCells 0 3 3 plane9 ≡ nine
 unfolding nine plane9 bitSeen heldAt cells
 unpacked-9 = refl
 
-unpacked-on : cutOut 0 3 3 3 3 16 15 (planeCells 3 3 plane9) ≡ 0 ∷ 1 ∷ 0 ∷ 1 ∷ 0 ∷ 0 ∷ 0 ∷ 1 ∷ 0 ∷ []
+-- with a second plane behind the first, whose cells the first has not: (1, 0) is 2
+unpacked-two : planeCells 17 3 3 (plane9 ++ (replicate 7 0 ++ 1 ∷ 3 ∷ 5 ∷ replicate 7 0)) ≡ 1 ∷ 2 ∷ 1 ∷ 0 ∷ 1 ∷ 0 ∷ 0 ∷ 0 ∷ 1 ∷ []
+unfolding plane9 bitSeen heldAt cells
+unpacked-two = refl
+
+unpacked-on : cutOut 0 3 3 3 3 16 15 (planeCells 0 3 3 plane9) ≡ 0 ∷ 1 ∷ 0 ∷ 1 ∷ 0 ∷ 0 ∷ 0 ∷ 1 ∷ 0 ∷ []
 unfolding plane9 bitSeen heldAt cells cutOut valueAt _+ᵖ_
 unpacked-on = refl
 

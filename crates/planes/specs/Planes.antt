@@ -7,7 +7,7 @@ use mathlib.Core.List.{List, map}
 use Prim.Native.Nat.{ℕ, _+_, _*_, _/_, _%_, _<_, _≤_}
 use lib.Dec.{leb}
 use lib.IntN.{ℤ, pos, negsuc, _-ℤ_}
-use lib.ListN.{length, getD}
+use lib.ListN.{length, getD, drop}
 use Rattle.plane.specs.Point.{Point, _-ᵖ_}
 use Rattle.masks.specs.Mask.{maskPoints}
 use Rattle.grids.specs.declared.Around.{Around}
@@ -16,7 +16,7 @@ use Rattle.grids.specs.Image.{view, cells}
 use Rattle.rows.specs.Cells.{bit}
 use Rattle.ranges.specs.Ranges.{Fitted, Written}
 use Rattle.cuts.specs.Cuts.{cutOut, sidesFit}
-use Rattle.planes.specs.Bits.{bitsOver}
+use Rattle.planes.specs.Bits.{bitsOver, levelBit, ofLevels}
 
 -- rows of bytes that R rows of cells take
 abbrev pub byteRows : ℕ → ℕ
@@ -29,6 +29,11 @@ lastRows R = (R + 7) % 8 + 1
 -- bytes that a plane of C columns and R rows takes
 abbrev pub planeSize : ℕ → ℕ → ℕ
 planeSize C R = (byteRows R + 2) * (C + 2) + 2
+
+-- where a second plane starts: where the first ends; with the first where one plane is both
+abbrev pub secondAt : Bool → ℕ → ℕ → ℕ
+secondAt false C R = 0
+secondAt true C R = planeSize C R
 
 -- column x of row y of the bytes p, s bytes a row of bytes, counted from the plane's first byte and its lowest bit
 unfoldable pub bitSeen : ℕ → List ℕ → ℕ → ℕ → ℕ
@@ -50,9 +55,9 @@ planeSides v C R = leb 1 R && leb C 65535 && leb R 65535 && leb v 1
 
 -- ---- packing
 
--- what a plane has room for: the lowest bit of each cell, which is all of a cell that is 0 or 1
-abbrev pub lowBits : List ℕ → List ℕ
-lowBits f = map (λ c. c % 2) f
+-- what a plane has room for: one level of each cell
+abbrev pub levelBits : Bool → List ℕ → List ℕ
+levelBits some f = map (levelBit some) f
 
 -- where a frame's cell (0, 0) stands in the plane: at its own, or at (15, 15)
 abbrev pub placeOf : Bool → ℕ
@@ -68,13 +73,13 @@ farOf Occupied = true
 abbrev pub packFits : ℕ → Bool → ℕ → ℕ → ℕ → ℕ → ℕ → ℕ → Bool
 packFits v far W H C R n k = planeSides v C R && leb (W + placeOf far) C && leb (H + placeOf far) R && leb (W * H) n && leb (planeSize C R) k
 
--- a frame f of W columns and H rows, with v around it, was packed into d, which then is d′
-pub record FramePacked (v : ℕ) (far : Bool) (W H C R : ℕ) (f d d′ : List ℕ) : Type 0 where
+-- one level of a frame f of W columns and H rows, with v around it, was packed into d, which then is d′
+pub record FramePacked (some : Bool) (v : ℕ) (far : Bool) (W H C R : ℕ) (f d d′ : List ℕ) : Type 0 where
   pub kept : PlaneOnly C R d d′
-  pub shown : Shows C R (λ p. view v W H (lowBits f) (p -ᵖ (pos (placeOf far), pos (placeOf far)))) d′
+  pub shown : Shows C R (λ p. view v W H (levelBits some f) (p -ᵖ (pos (placeOf far), pos (placeOf far)))) d′
 
-abbrev pub Packed : ℕ → Bool → ℕ → ℕ → ℕ → ℕ → List ℕ → List ℕ → Bool → List ℕ → Type 0
-Packed v far W H C R f d r d′ = Fitted (packFits v far W H C R (length f) (length d)) (FramePacked v far W H C R f d d′) d r d′
+abbrev pub Packed : Bool → ℕ → Bool → ℕ → ℕ → ℕ → ℕ → List ℕ → List ℕ → Bool → List ℕ → Type 0
+Packed some v far W H C R f d r d′ = Fitted (packFits v far W H C R (length f) (length d)) (FramePacked some v far W H C R f d d′) d r d′
 
 -- ---- the stage
 
@@ -102,14 +107,15 @@ heldAt C p (pos x) (pos y) = bitSeen (C + 2) p (x + 2) (y + 8)
 heldAt C p (pos x) (negsuc y) = 0
 heldAt C p (negsuc x) y = 0
 
--- the cells of a plane p of C columns and R rows, row 0 first
-abbrev pub planeCells : ℕ → ℕ → List ℕ → List ℕ
-planeCells C R p = cells C R (λ q. heldAt C p (q .0) (q .1))
+-- the cells whose levels are in the plane at the start of p and in the one from its byte o on, of C columns and R rows, row 0 first; where o is 0 they are in
+-- one plane, and no cell is 2
+abbrev pub planeCells : ℕ → ℕ → ℕ → List ℕ → List ℕ
+planeCells o C R p = cells C R (λ q. ofLevels (heldAt C p (q .0) (q .1)) (heldAt C (drop o p) (q .0) (q .1)))
 
--- W columns and H rows are cut out of a plane in n bytes into k bytes, at the distances a − 15 and b − 15
-abbrev pub unpackFits : ℕ → ℕ → ℕ → ℕ → ℕ → ℕ → ℕ → ℕ → Bool
-unpackFits W H C R a b n k = sidesFit W H C R a b && leb (planeSize C R) n && leb (W * H) k
+-- W columns and H rows are cut out of planes in n bytes, of which the second starts at o, into k bytes, at the distances a − 15 and b − 15
+abbrev pub unpackFits : ℕ → ℕ → ℕ → ℕ → ℕ → ℕ → ℕ → ℕ → ℕ → Bool
+unpackFits o W H C R a b n k = sidesFit W H C R a b && leb o 65535 && leb (o + planeSize C R) n && leb (W * H) k
 
--- the cut of the plane's cells was written to d, which then is d′
-abbrev pub Unpacked : ℕ → ℕ → ℕ → ℕ → ℕ → ℕ → ℕ → List ℕ → List ℕ → Bool → List ℕ → Type 0
-Unpacked v W H C R a b p d r d′ = Written (unpackFits W H C R a b (length p) (length d)) (W * H) (cutOut v W H C R a b (planeCells C R p)) d r d′
+-- the cut of the planes' cells was written to d, which then is d′
+abbrev pub Unpacked : ℕ → ℕ → ℕ → ℕ → ℕ → ℕ → ℕ → ℕ → List ℕ → List ℕ → Bool → List ℕ → Type 0
+Unpacked o v W H C R a b p d r d′ = Written (unpackFits o W H C R a b (length p) (length d)) (W * H) (cutOut v W H C R a b (planeCells o C R p)) d r d′

@@ -3,3 +3,4 @@ pub mod FlatRows
 pub mod Whole
 pub mod Values
 pub mod Sizing
+pub mod Tails

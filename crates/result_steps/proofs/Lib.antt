@@ -1,2 +1,3 @@
 pub mod Rooms
+pub mod Behind
 pub mod Reading

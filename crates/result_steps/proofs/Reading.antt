@@ -1,6 +1,7 @@
 -- The cut reads the last grid where document 01 says: so what is cut is what the single stages give in turn.
 use mathlib.Core.Path.{_≡_, refl, sym, _∙_, ap, ap₂, fun-ext}
 use mathlib.Core.Logic.{⊎-elim}
+use mathlib.Core.Bool.{Bool}
 use mathlib.Core.List.{List}
 use Prim.Native.Nat.{ℕ, suc, _+_, _-_, _*_, _%_, _≤_, _<_}
 use native.Mathlib.Omega.{arith}
@@ -16,7 +17,7 @@ use Rattle.grids.specs.Grid.{outsideOf, corner, gridBytes, grid, put}
 use Rattle.grids.specs.Image.{cells}
 use Rattle.cuts.specs.Cuts.{cutOut}
 use Rattle.ranges.specs.Ranges.{overFront}
-use Rattle.planes.specs.Planes.{planeCells}
+use Rattle.planes.specs.Planes.{secondAt, planeCells}
 use Rattle.cleaning.specs.declared.Operation.{Operation}
 use Rattle.cleaning.specs.declared.Operation.the-variants.{Dilation, Erosion, Opening, Closing}
 use Rattle.cleaning.specs.Operation.{around, lastGrid, readAt, inTurn}
@@ -68,20 +69,24 @@ cut-turn op plan W H f g w d h k e =
     ap (gridBytes (around op) W H g) (read-ahead op w p h k ∙ ap (λ q. readAt op q p +ᵖ corner (around op)) (sym d))
     ∙ ap (λ z. grid (around op) W H z (readAt op (planOffset plan) p)) e))
 
--- the cut of the plane p at the distances a and b, with v outside
-abbrev cutAt : ℕ → ℕ → ℕ → ℕ → ℕ → List ℕ → List ℕ
-cutAt v W H a b p = cutOut v W H (W + 15) (H + 15) a b (planeCells (W + 15) (H + 15) p)
+-- the cut of the planes in p, the second from byte o on, at the distances a and b, with v outside
+abbrev cutAt : ℕ → ℕ → ℕ → ℕ → ℕ → ℕ → List ℕ → List ℕ
+cutAt o v W H a b p = cutOut v W H (W + 15) (H + 15) a b (planeCells o (W + 15) (H + 15) p)
 
 -- the cut from one image into the other, at the distances and with the value outside that were worked out
-module _ {op : Operation} (place : ℕ) {v W H t a b : ℕ} {i j : List ℕ} where
-  pub away-first : {j′ : List ℕ} → a ≡ distance op (placeX place) → b ≡ distance op (placeY place) → v ≡ outsideOf (around op) → t % 2 ≡ 0
-      → j′ ≡ overFront (W * H) (cutAt v W H a b i) j
-      → CutAway op place W H t i j i j′
-  away-first p q o e c = let z = eq-eqb (t % 2) 0 e in record { from = rw z; to = rw (z, sym p, sym q, sym o) c }
+module _ {two : Bool} {op : Operation} (place : ℕ) {o v W H t a b : ℕ} {i j : List ℕ} where
+  pub away-first : {j′ : List ℕ} → a ≡ distance op (placeX place) → b ≡ distance op (placeY place) → v ≡ outsideOf (around op)
+      → o ≡ secondAt two (W + 15) (H + 15)
+      → t % 2 ≡ 0
+      → j′ ≡ overFront (W * H) (cutAt o v W H a b i) j
+      → CutAway two op place W H t i j i j′
+  away-first p q r l e c = let z = eq-eqb (t % 2) 0 e in record { from = rw z; to = rw (z, sym p, sym q, sym r, sym l) c }
 
-  pub away-second : {i′ : List ℕ} → a ≡ distance op (placeX place) → b ≡ distance op (placeY place) → v ≡ outsideOf (around op) → (t % 2 ≡ 0 → ⊥)
-      → i′ ≡ overFront (W * H) (cutAt v W H a b j) i → CutAway op place W H t i j i′ j
-  away-second p q o e c = let z = ne-eqb (t % 2) 0 e in record { from = rw z; to = rw (z, sym p, sym q, sym o) c }
+  pub away-second : {i′ : List ℕ} → a ≡ distance op (placeX place) → b ≡ distance op (placeY place) → v ≡ outsideOf (around op)
+      → o ≡ secondAt two (W + 15) (H + 15)
+      → (t % 2 ≡ 0 → ⊥)
+      → i′ ≡ overFront (W * H) (cutAt o v W H a b j) i → CutAway two op place W H t i j i′ j
+  away-second p q r l e c = let z = ne-eqb (t % 2) 0 e in record { from = rw z; to = rw (z, sym p, sym q, sym r, sym l) c }
 
 -- the distances are small
 pub ahead-small : (op : Operation) (f : ℕ) → f ≤ 30 → distance op f ≤ 45

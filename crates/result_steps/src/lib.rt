@@ -1,5 +1,6 @@
-// An operation's result, on a frame that is packed into a plane in the first of two work images: the stages are run (turn_steps), and the result is cut from
-// the last plane into the other image (`results`).
+// An operation's result, on a frame that is packed into a plane in the first of two work images, or into two that have both levels of it: the stages are run
+// (`levels`), and the result is cut from the last plane, or planes, into the other image (`results`).
+mod levels;
 mod results;
 
 use cleaning::Operation;
@@ -38,8 +39,8 @@ fn runnable(plan: &[u32], w: usize, h: usize, first: &[u8], second: &[u8]) -> bo
     true
 }
 
-// The stages of an operation, on the plane in the first image, and the cut of the result. Returns the number of stages run; 0, with the images as they
-// were, where the plan list or the images cannot be run.
+// The stages of an operation, on the plane in the first image, or on the two, and the cut of the result. Returns the number of stages run; 0, with the images
+// as they were, where the plan list or the images cannot be run.
 pub fn run(
     op: Operation,
     plan: &[u32],
@@ -47,13 +48,14 @@ pub fn run(
     h: usize,
     first: &mut [u8],
     second: &mut [u8],
+    two: bool,
 ) -> usize
-    ensures { λ r. ⌜ TurnsRun op (now (plan .entry)) w h (now (first .entry)) (now (second .entry)) r (now (first .exit)) (now (second .exit)) ⌝ }
+    ensures { λ r. ⌜ TurnsRun two op (now (plan .entry)) w h (now (first .entry)) (now (second .entry)) r (now (first .exit)) (now (second .exit)) ⌝ }
 {
     if !runnable(plan, w, h, first, second) {
         return 0;
     }
-    let n = turn_steps::stages(op, plan, w, h, first, second);
-    results::cut(op, plan[1], n, w, h, first, second);
+    let n = levels::stages(op, plan, w, h, first, second, two);
+    results::cut(op, plan[1], n, w, h, first, second, two);
     n
 }

@@ -18,17 +18,17 @@ use Rattle.words.specs.Ground.{firstOf}
 use Rattle.words.proofs.Refusals.{clear}
 use Rattle.shapes.specs.Plan.{planMasks, planOffset, planPoints, planTests}
 use Rattle.shapes.proofs.Written.{plan-itself}
-use Rattle.grids.specs.Frame.{badCell}
-use Rattle.cleaning.specs.Operation.{Says, Direct, inTurn}
+use Rattle.grids.specs.Frame.{highest, badCell}
+use Rattle.cleaning.specs.Operation.{Direct, inTurn}
 use Rattle.cleaning.specs.declared.Operation.{Operation}
 use Rattle.cleaning.specs.declared.Operation.the-variants.{Dilation}
-use Rattle.cleaning.proofs.Fixed.{says-same}
-use Rattle.cleaning.proofs.Plans.{binary, small-plan}
+use Rattle.cleaning.proofs.Fixed.{direct-cell}
+use Rattle.cleaning.proofs.Plans.{passing, small-plan}
 use Rattle.cleaning.proofs.Turn.{turn-direct}
 use Rattle.rolling.specs.Ends.{rowsOf, nearRows, partRows, EndPut}
-use Rattle.rolling.specs.Rolling.{rolled, greatestY, farther, dilatedBy, Rolled}
+use Rattle.rolling.specs.Rolling.{rolled, greatestY, farther, DilatedTo, Rolled}
 use Rattle.rolling.proofs.Part.{Amid, part-dilation}
-use Rattle.rolling.proofs.Possible.{none-drop, none-take}
+use Rattle.rolling.proofs.Clean.{none-drop, none-take}
 
 -- ---- parts that are long enough
 
@@ -53,22 +53,25 @@ rows-at W a e f x y h k =
     getD-take (e * W) (drop (a * W) f) (y * W + x) 0 (omega arith) ∙ getD-drop (a * W) f (y * W + x) 0 ∙ ap (λ n. getD f n 0) (omega (arith, add-mul a y W))
 
 -- the dilation of a part that is long enough is that of the frame
-part-says : (P : List Point) (W H a e : ℕ) (f made : List ℕ) → Direct Dilation W e (rowsOf W a e f) (In P) made → (x r : ℕ) → x < W → a ≤ r
-    → Amid e H a (greatestY P) (r - a) → Says (getD made ((r - a) * W + x) 0) (dilatedBy W H f (In P) (pos x, pos r))
-part-says P W H a e f made D x r h l A =
-    let s = says-same (getD made ((r - a) * W + x) 0) (part-dilation W H e a f (rowsOf W a e f) (rows-at W a e f) P x (r - a) h A)
-    (D .cell x (r - a) h (A .here)) in
+part-gives : (P : List Point) (W H a e : ℕ) (f made : List ℕ) → Direct Dilation W e (rowsOf W a e f) (In P) made → (x r : ℕ) → x < W → a ≤ r
+    → Amid e H a (greatestY P) (r - a) → DilatedTo W H f (In P) (pos x, pos r) (getD made ((r - a) * W + x) 0)
+part-gives P W H a e f made D x r h l A =
+    let v = getD made ((r - a) * W + x) 0 in
+    let p : Point = (pos x, pos (r - a)) in
+    let here = subst (DilatedTo W e (rowsOf W a e f) (In P) p) (sym (direct-cell Dilation W e (rowsOf W a e f) (In P) made D x (r - a) h (A .here)))
+    (D .made p) in
+    let s = part-dilation W H e a f (rowsOf W a e f) (rows-at W a e f) P x (r - a) h A v .0 here in
     let q : a + (r - a) ≡ r = omega arith in
-    subst (λ n. Says (getD made ((r - a) * W + x) 0) (dilatedBy W H f (In P) (pos x, pos n))) q s
+    subst (λ n. DilatedTo W H f (In P) (pos x, pos n) v) q s
 
--- an accepted plan's stages give in turn, of cells of 0 and 1 in any number of rows, what its points give directly
+-- an accepted plan's stages give in turn, of cells that pass ground 13 in any number of rows, what its points give directly
 pub plan-direct : (op : Operation) (plan : List ℕ) (W h : ℕ) (g : List ℕ) → firstOf (planTests plan) ≡ 0 → T (not (badCell g))
     → Direct op W h g (In (planPoints plan)) (inTurn op W h g (planOffset plan) (planMasks plan))
 unfolding planTests
 plan-direct op plan W h g z t =
     let c = clear (planTests plan) tt z .1 .1 .1 .1 .1 in
     let P = plan-itself plan (c .0) in
-    turn-direct op W h g (planOffset plan) (planMasks plan) (In (planPoints plan)) (P .stages) (small-plan plan (P .stages) (c .1 .0)) (binary g t) (P .sum)
+    turn-direct op W h g (planOffset plan) (planMasks plan) (In (planPoints plan)) (P .stages) (small-plan plan (P .stages) (c .1 .0)) (passing g t) (P .sum)
 
 -- ---- rows that are moved
 
@@ -110,11 +113,11 @@ module _ (plan : List ℕ) (z : firstOf (planTests plan) ≡ 0) (W H : ℕ) (f :
 
   -- a part's rows, as they were put
   end-says : {a b : ℕ} {kept kept′ : List ℕ} → EndPut plan W a e f b t kept kept′ → (x r : ℕ) → x < W → b ≤ r → r < b + t → a ≤ r → Amid e H a Y (r - a)
-      → Says (getD kept′ (r * W + x) 0) (dilatedBy W H f (In P) (pos x, pos r))
+      → DilatedTo W H f (In P) (pos x, pos r) (getD kept′ (r * W + x) 0)
   end-says {a} E x r h k l m A =
-      let part-clean = none-take (ltb 1) (e * W) (drop (a * W) f) (none-drop (ltb 1) (a * W) f clean) in
+      let part-clean = none-take (ltb highest) (e * W) (drop (a * W) f) (none-drop (ltb highest) (a * W) f clean) in
       let D = plan-direct Dilation plan W e (rowsOf W a e f) z part-clean in
-      subst (λ n. Says n (dilatedBy W H f (In P) (pos x, pos r))) (sym (E .near x r h k l)) (part-says P W H a e f _ D x r h m A)
+      subst (DilatedTo W H f (In P) (pos x, pos r)) (sym (E .near x r h k l)) (part-gives P W H a e f _ D x r h m A)
 
   pub by-ends : (row live kept : List ℕ) {k₁ k₂ : List ℕ} → f ≡ rolled W live row → length row ≡ W → length kept ≡ W * H → length (rolled W kept row) ≡ W * H
       → EndPut plan W 0 e f 0 t (rolled W kept row) k₁ → EndPut plan W (H - e) e f (H - t) t k₁ k₂
@@ -130,9 +133,9 @@ module _ (plan : List ℕ) (z : firstOf (planTests plan) ≡ 0) (W H : ℕ) (f :
   }
     where
       go : (x r : ℕ) → x < W → r < H → (r < H - t) ⊎ (H - t ≤ r) → (r ≤ Y) ⊎ (H - 1 - r ≤ Y)
-          → Says (getD k₂ (r * W + x) 0) (dilatedBy W H f (In P) (pos x, pos r))
+          → DilatedTo W H f (In P) (pos x, pos r) (getD k₂ (r * W + x) 0)
       go x r h k (inr l) u = end-says bottom x r h l (omega arith) (omega arith) (bottom-amid H Y r k (omega arith))
       go x r h k (inl l) (inl u) =
-          subst (λ n. Says n (dilatedBy W H f (In P) (pos x, pos r))) (sym (bottom .far x r h (inl l)))
+          subst (DilatedTo W H f (In P) (pos x, pos r)) (sym (bottom .far x r h (inl l)))
           (end-says top x r h zero-le (omega arith) zero-le (top-amid H Y r k u))
       go x r h k (inl l) (inr u) = absurd (omega arith)

@@ -1,6 +1,6 @@
 -- Worked cases of W1: which rows are only moved, shown in kept frames that are wrong; rows that arrive one after the other; and the order of the grounds.
-use mathlib.Core.Path.{_≡_, refl, _∙_, subst}
-use mathlib.Core.Logic.{inl, inr, ⊎-elim}
+use mathlib.Core.Path.{_≡_, refl, _∙_, ap, subst}
+use mathlib.Core.Logic.{inl, inr}
 use mathlib.Core.List.{List, [], _∷_}
 use Prim.Native.Nat.{ℕ}
 use native.Mathlib.Omega.{arith}
@@ -12,7 +12,9 @@ use Rattle.words.specs.Ground.{firstOf, stated, result, refusal}
 use Rattle.words.specs.declared.Answer.{Answer}
 use Rattle.masks.specs.Mask.{maskCells}
 use Rattle.shapes.specs.Plan.{planPoints, planTests}
+use Rattle.grids.specs.Frame.{free, frame}
 use Rattle.grids.specs.Image.{cells, valueAt}
+use Rattle.grids.proofs.Rules.{gives-one}
 use Rattle.rolling.specs.Claim.{allFree, Arrivals, Right, takesRow, present}
 use Rattle.rolling.specs.Rolling.{rolled, greatestY, arrivalTests, Rolled, Arrived}
 use Rattle.rolling.proofs.Possible.{broughtAt, broughtUp, accepted-leaves}
@@ -47,18 +49,17 @@ next-of-before k R = R .moved 0 2 (omega arith) (omega arith) tt
 -- what is worked out anew is the dilation of the live frame as it is then
 of-the-new : (k : List ℕ) → Rolled (planPoints two) 1 1 (1 ∷ []) (0 ∷ []) (0 ∷ []) (1 ∷ []) k → getD k 0 0 ≡ 1
 unfolding greatestY planPoints maskCells valueAt _+ᵖ_ negᵖ
-of-the-new k R = ⊎-elim
-    (λ q. q .0)
-    (λ q. absurd (q .1 ((pos 0, pos 0), (pos 0, pos 0), refl, inl refl, refl)))
+of-the-new k R =
+    gives-one (In (planPoints two)) (frame free 1 1 (1 ∷ [])) (pos 0, pos 0) (getD k 0 0) ((pos 0, pos 0), inl refl, refl)
     (R .anew 0 0 (omega arith) (omega arith) tt)
 
 -- a kept frame that is right has the cell that is occupied, and the one below it
 right-below : (k : List ℕ) → Right 1 2 (In (planPoints two)) (1 ∷ 0 ∷ []) k → getD k 1 0 ≡ 1
-unfolding planPoints maskCells valueAt _+ᵖ_ negᵖ
-right-below k D = ⊎-elim
-    (λ q. q .0)
-    (λ q. absurd (q .1 ((pos 0, pos 0), (pos 0, pos 1), refl, inr (inl refl), refl)))
-    (D .cell 0 1 (omega arith) (omega arith))
+unfolding planPoints maskCells cells valueAt _+ᵖ_ negᵖ
+right-below k D =
+    ap (λ l. getD l 1 0) (D .cut)
+    ∙ gives-one (In (planPoints two)) (frame free 1 2 (1 ∷ 0 ∷ [])) (pos 0, pos 1) (D .picture (pos 0, pos 1)) ((pos 0, pos 1), inr (inl refl), refl)
+    (D .made (pos 0, pos 1))
 
 -- ---- rows that are only moved, in one column
 
@@ -109,6 +110,11 @@ three l k a =
     let r = accepted-leaves two 1 3 (0 ∷ []) (0 ∷ 1 ∷ 0 ∷ []) (0 ∷ 1 ∷ 1 ∷ []) (c .0) (c .1) (c .2) refl e in
     (c .4 .0 ∙ r .1, c .4 .1 ∙ r .2)
 
+-- a cell that was not measured arrives: it is kept as such, and spreads over the free cell below it when a free row follows
+unmeasured : (s : Answer) (l k : List ℕ) → Arrived two 1 3 (0 ∷ []) (0 ∷ 0 ∷ 2 ∷ []) (0 ∷ 0 ∷ 2 ∷ []) s l k → (l ≡ 0 ∷ 2 ∷ 0 ∷ []) × (k ≡ 0 ∷ 2 ∷ 2 ∷ [])
+unfolding arrivalTests planTests broughtUp broughtAt cells valueAt planPoints maskCells _+ᵖ_ negᵖ
+unmeasured s l k a = let f = accepted-leaves two 1 3 (0 ∷ []) (0 ∷ 0 ∷ 2 ∷ []) (0 ∷ 0 ∷ 2 ∷ []) s l k refl a in (f .1, f .2)
+
 -- the rows now present, a row of two cells among those that arrive
 rows-present : present two 1 3 ((1 ∷ []) ∷ (0 ∷ 0 ∷ []) ∷ (0 ∷ []) ∷ []) ≡ 0 ∷ 1 ∷ 0 ∷ []
 unfolding takesRow planTests planPoints maskCells _+ᵖ_
@@ -136,15 +142,15 @@ row-short : firstOf (arrivalTests two 2 2 (7 ∷ []) (7 ∷ 7 ∷ 7 ∷ 7 ∷ []
 unfolding arrivalTests planTests planPoints maskCells _+ᵖ_
 row-short = refl
 
-row-cell : firstOf (arrivalTests two 2 2 (0 ∷ 2 ∷ []) (0 ∷ 0 ∷ 0 ∷ 0 ∷ []) (0 ∷ 0 ∷ 0 ∷ 0 ∷ [])) ≡ 13
+row-cell : firstOf (arrivalTests two 2 2 (0 ∷ 3 ∷ []) (0 ∷ 0 ∷ 0 ∷ 0 ∷ []) (0 ∷ 0 ∷ 0 ∷ 0 ∷ [])) ≡ 13
 unfolding arrivalTests planTests planPoints maskCells _+ᵖ_
 row-cell = refl
 
-kept-cell : firstOf (arrivalTests two 2 2 (0 ∷ 0 ∷ []) (0 ∷ 0 ∷ 0 ∷ 0 ∷ []) (0 ∷ 0 ∷ 2 ∷ 0 ∷ [])) ≡ 13
+kept-cell : firstOf (arrivalTests two 2 2 (0 ∷ 0 ∷ []) (0 ∷ 0 ∷ 0 ∷ 0 ∷ []) (0 ∷ 0 ∷ 3 ∷ 0 ∷ [])) ≡ 13
 unfolding arrivalTests planTests planPoints maskCells _+ᵖ_
 kept-cell = refl
 
-live-cell : firstOf (arrivalTests two 2 2 (0 ∷ 0 ∷ []) (2 ∷ 0 ∷ 0 ∷ 0 ∷ []) (0 ∷ 0 ∷ 0 ∷ 0 ∷ [])) ≡ 13
+live-cell : firstOf (arrivalTests two 2 2 (0 ∷ 0 ∷ []) (3 ∷ 0 ∷ 0 ∷ 0 ∷ []) (0 ∷ 0 ∷ 0 ∷ 0 ∷ [])) ≡ 13
 unfolding arrivalTests planTests planPoints maskCells _+ᵖ_
 live-cell = refl
 

@@ -1,3 +1,4 @@
+pub mod Clean
 pub mod Local
 pub mod Reach
 pub mod Part

@@ -2,7 +2,7 @@
 -- around two points are alike there afterwards; so a part of a picture, at whatever place it stands, will do for the whole.
 use mathlib.Core.Path.{_≡_, refl, sym, _∙_, ap, subst}
 use mathlib.Core.Logic.{_↔_, inl, inr}
-use mathlib.Core.Bool.{not, _||_}
+use mathlib.Core.Bool.{Bool, true, false, not, _||_}
 use mathlib.Core.List.{List, _∷_, map}
 use Prim.Native.Nat.{ℕ, zero, suc, _≤_}
 use native.Mathlib.Omega.{arith}
@@ -11,45 +11,41 @@ use lib.IntN.{ℤ, pos, negsuc, _+ℤ_, _-ℤ_, negℤ, natAbs, negℤ-+ℤ, neg
 use lib.Signed.{ltZ}
 use Rattle.plane.specs.Extent.{x-of, y-of, span, width, height}
 use Rattle.plane.specs.Lists.{In, any}
-use Rattle.plane.specs.Point.{Point, PointSet, _+ᵖ_, negᵖ, _-ᵖ_, dilation, erosion}
-use Rattle.plane.proofs.Algebra.{+ᵖ-assoc, +ᵖ-comm, +ᵖ-cancel, subᵖ-cancel}
+use Rattle.plane.specs.Point.{Point, PointSet, _+ᵖ_, negᵖ, _-ᵖ_}
+use Rattle.plane.proofs.Algebra.{+ᵖ-assoc, +ᵖ-comm}
 use Rattle.plane.proofs.Extents.{span-far}
 use Rattle.plane.proofs.Member.{In-map, no-any}
 use Rattle.plane.proofs.Tests.{not-or}
 use Rattle.shapes.specs.Shape.{tooFar, outOfRange}
-use Rattle.cleaning.specs.Operation.{made}
+use Rattle.grids.specs.Rules.{covered, Gives, Makes}
+use Rattle.grids.proofs.Rules.{gives-once, gives-alike}
+use Rattle.cleaning.specs.Operation.{Made}
 use Rattle.cleaning.specs.declared.Operation.{Operation}
 use Rattle.cleaning.specs.declared.Operation.the-variants.{Dilation, Erosion, Opening, Closing}
 use Rattle.rolling.specs.Rolling.{greatestY}
 
 -- ---- the cells covered
 
--- the cells covered at p are p − a for dilation and p + a for erosion; X around p is as Y around q
-abbrev pub Alike : Operation → PointSet → PointSet → Point → PointSet → Point → Type 0
-Alike Dilation A X p Y q = (a : Point) → A a → X (p -ᵖ a) ↔ Y (q -ᵖ a)
-Alike Erosion A X p Y q = (a : Point) → A a → X (p +ᵖ a) ↔ Y (q +ᵖ a)
-Alike Opening A X p Y q = (a b : Point) → A a → A b → X (p -ᵖ a +ᵖ b) ↔ Y (q -ᵖ a +ᵖ b)
-Alike Closing A X p Y q = (a b : Point) → A a → A b → X (p +ᵖ a -ᵖ b) ↔ Y (q +ᵖ a -ᵖ b)
+-- the cells covered at p are p − a for dilation and p + a for erosion; f around p is as g around q
+abbrev pub Alike : Operation → PointSet → (Point → ℕ) → Point → (Point → ℕ) → Point → Type 0
+Alike Dilation A f p g q = (a : Point) → A a → f (p -ᵖ a) ≡ g (q -ᵖ a)
+Alike Erosion A f p g q = (a : Point) → A a → f (p +ᵖ a) ≡ g (q +ᵖ a)
+Alike Opening A f p g q = (a b : Point) → A a → A b → f (p -ᵖ a +ᵖ b) ≡ g (q -ᵖ a +ᵖ b)
+Alike Closing A f p g q = (a b : Point) → A a → A b → f (p +ᵖ a -ᵖ b) ≡ g (q +ᵖ a -ᵖ b)
 
-dilation-to : (A X Y : PointSet) (p q : Point) → ((a : Point) → A a → X (p -ᵖ a) → Y (q -ᵖ a)) → dilation X A p → dilation Y A q
-dilation-to A X Y p q s h =
-    let x = subst X (sym (+ᵖ-cancel (h .0) (h .1)) ∙ ap (λ z. z -ᵖ h .1) (h .4)) (h .2) in
-    (q -ᵖ h .1, h .1, s (h .1) (h .3) x, h .3, subᵖ-cancel q (h .1))
-
-pub dilation-alike : (A X Y : PointSet) (p q : Point) → Alike Dilation A X p Y q → dilation X A p ↔ dilation Y A q
-dilation-alike A X Y p q s = (dilation-to A X Y p q (λ a h. s a h .0), dilation-to A Y X q p (λ a h. s a h .1))
-
-pub erosion-alike : (A X Y : PointSet) (p q : Point) → Alike Erosion A X p Y q → erosion X A p ↔ erosion Y A q
-erosion-alike A X Y p q s = (λ h a k. s a k .0 (h a k), λ h a k. s a k .1 (h a k))
+-- by one rule
+rule-alike : (erode : Bool) (A : PointSet) (f g f′ g′ : Point → ℕ) (p q : Point) → Makes erode A f f′ → Makes erode A g g′
+    → ((a : Point) → A a → f (covered erode p a) ≡ g (covered erode q a)) → f′ p ≡ g′ q
+rule-alike erode A f g f′ g′ p q m n s = gives-once erode A g q (f′ p) (g′ q) (gives-alike erode A f g p q s (f′ p) (m p)) (n q)
 
 -- each of the four operations
-pub alike : (op : Operation) (A X Y : PointSet) (p q : Point) → Alike op A X p Y q → made op X A p ↔ made op Y A q
-alike Dilation A X Y p q s = dilation-alike A X Y p q s
-alike Erosion A X Y p q s = erosion-alike A X Y p q s
-alike Opening A X Y p q s =
-    dilation-alike A (erosion X A) (erosion Y A) p q (λ a h. erosion-alike A X Y (p -ᵖ a) (q -ᵖ a) (λ b k. s a b h k))
-alike Closing A X Y p q s =
-    erosion-alike A (dilation X A) (dilation Y A) p q (λ a h. dilation-alike A X Y (p +ᵖ a) (q +ᵖ a) (λ b k. s a b h k))
+pub alike : (op : Operation) (A : PointSet) (f g f′ g′ : Point → ℕ) (p q : Point) → Made op A f f′ → Made op A g g′ → Alike op A f p g q → f′ p ≡ g′ q
+alike Dilation A f g f′ g′ p q m n s = rule-alike false A f g f′ g′ p q m n s
+alike Erosion A f g f′ g′ p q m n s = rule-alike true A f g f′ g′ p q m n s
+alike Opening A f g f′ g′ p q m n s =
+    rule-alike false A (m .0) (n .0) f′ g′ p q (m .2) (n .2) (λ a h. rule-alike true A f g (m .0) (n .0) (p -ᵖ a) (q -ᵖ a) (m .1) (n .1) (λ b k. s a b h k))
+alike Closing A f g f′ g′ p q m n s =
+    rule-alike true A (m .0) (n .0) f′ g′ p q (m .2) (n .2) (λ a h. rule-alike false A f g (m .0) (n .0) (p +ᵖ a) (q +ᵖ a) (m .1) (n .1) (λ b k. s a b h k))
 
 -- ---- within 15
 
@@ -101,20 +97,18 @@ module _ (P : List Point) (o : T (not (outOfRange P))) where
   )
 
   -- pictures that are alike within 15 of p and of q are alike there after each of the four operations
-  pub within : (op : Operation) (X Y : PointSet) (p q : Point) → ((d : Point) → Near 15 d → X (p +ᵖ d) ↔ Y (q +ᵖ d)) → made op X (In P) p ↔ made op Y (In P) q
-  within op X Y p q s = alike op (In P) X Y p q (covered op)
+  pub within : (op : Operation) (f g f′ g′ : Point → ℕ) (p q : Point) → Made op (In P) f f′ → Made op (In P) g g′
+      → ((d : Point) → Near 15 d → f (p +ᵖ d) ≡ g (q +ᵖ d)) → f′ p ≡ g′ q
+  within op f g f′ g′ p q m n s = alike op (In P) f g f′ g′ p q m n (reached op)
     where
-      at : (d e f : Point) → ((r : Point) → r +ᵖ d ≡ r +ᵖ e +ᵖ f) → Near 15 d → X (p +ᵖ e +ᵖ f) ↔ Y (q +ᵖ e +ᵖ f)
-      at d e f g n = (
-        λ x. subst Y (g q) (s d n .0 (subst X (sym (g p)) x)),
-        λ y. subst X (g p) (s d n .1 (subst Y (sym (g q)) y)),
-      )
+      at : (d e c : Point) → ((r : Point) → r +ᵖ d ≡ r +ᵖ e +ᵖ c) → Near 15 d → f (p +ᵖ e +ᵖ c) ≡ g (q +ᵖ e +ᵖ c)
+      at d e c l k = ap f (sym (l p)) ∙ s d k ∙ ap g (l q)
 
-      covered : (op : Operation) → Alike op (In P) X p Y q
-      covered Dilation = λ a h. s (negᵖ a) (each-neg a h)
-      covered Erosion = λ a h. s a (each a h)
-      covered Opening = λ a b h k. at (b -ᵖ a) (negᵖ a) b (λ r. ap (λ z. r +ᵖ z) (+ᵖ-comm b (negᵖ a)) ∙ sym (+ᵖ-assoc r (negᵖ a) b)) (two b a k h)
-      covered Closing = λ a b h k. at (a -ᵖ b) a (negᵖ b) (λ r. sym (+ᵖ-assoc r a (negᵖ b))) (two a b h k)
+      reached : (op : Operation) → Alike op (In P) f p g q
+      reached Dilation = λ a h. s (negᵖ a) (each-neg a h)
+      reached Erosion = λ a h. s a (each a h)
+      reached Opening = λ a b h k. at (b -ᵖ a) (negᵖ a) b (λ r. ap (λ z. r +ᵖ z) (+ᵖ-comm b (negᵖ a)) ∙ sym (+ᵖ-assoc r (negᵖ a) b)) (two b a k h)
+      reached Closing = λ a b h k. at (a -ᵖ b) a (negᵖ b) (λ r. sym (+ᵖ-assoc r a (negᵖ b))) (two a b h k)
 
 -- ---- rows
 
@@ -124,8 +118,11 @@ greatest-y (p ∷ P) a (inl e) = let q : natAbs (a .1) ≡ natAbs (p .1) = ap (�
 greatest-y (p ∷ P) a (inr h) = let r = greatest-y P a h in omega arith
 
 -- a dilation at a point depends on no row farther than the greatest |y|
-pub within-rows : (P : List Point) (X Y : PointSet) (p q : Point) → ((d : Point) → natAbs (d .1) ≤ greatestY P → X (p +ᵖ d) ↔ Y (q +ᵖ d))
-    → dilation X (In P) p ↔ dilation Y (In P) q
+pub within-rows : (P : List Point) (f g : Point → ℕ) (p q : Point) → ((d : Point) → natAbs (d .1) ≤ greatestY P → f (p +ᵖ d) ≡ g (q +ᵖ d))
+    → (v : ℕ) → Gives false (In P) f p v ↔ Gives false (In P) g q v
 unfolding negᵖ
-within-rows P X Y p q s =
-    dilation-alike (In P) X Y p q (λ a h. s (negᵖ a) (subst (λ n. n ≤ greatestY P) (sym (abs-neg (a .1))) (greatest-y P a h)))
+within-rows P f g p q s v =
+    (gives-alike false (In P) f g p q (λ a h. near a h) v, gives-alike false (In P) g f q p (λ a h. sym (near a h)) v)
+  where
+    near : (a : Point) → In P a → f (p -ᵖ a) ≡ g (q -ᵖ a)
+    near a h = s (negᵖ a) (subst (λ n. n ≤ greatestY P) (sym (abs-neg (a .1))) (greatest-y P a h))

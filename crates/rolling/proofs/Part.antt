@@ -15,11 +15,11 @@ use Rattle.plane.specs.Point.{Point, _+ᵖ_}
 use Rattle.plane.proofs.Integer.{diff-ge, diff-lt}
 use Rattle.plane.proofs.Tests.{lt-or-le, not-ltb}
 use Rattle.shapes.specs.Shape.{outOfRange}
-use Rattle.grids.specs.Frame.{free, frame, occupied}
+use Rattle.grids.specs.Frame.{free, frame}
 use Rattle.grids.specs.Image.{valueAt}
-use Rattle.cleaning.specs.Operation.{made}
+use Rattle.cleaning.specs.Operation.{Made}
 use Rattle.cleaning.specs.declared.Operation.{Operation}
-use Rattle.rolling.specs.Rolling.{greatestY, dilatedBy}
+use Rattle.rolling.specs.Rolling.{greatestY, DilatedTo}
 use Rattle.rolling.proofs.Local.{within, within-rows}
 
 -- ---- along one axis: n of N places, from place a on
@@ -125,20 +125,17 @@ module _ (v W H w h a b : ℕ) (f g : List ℕ) (same : (x y : ℕ) → x < w �
           ap₂ (valueAt v w h g) (t .2) (r .2) ∙ both-in (t .0) (r .0) (t .1) (r .1) (A .inner) (B .inner) ∙ sym (ap₂ (valueAt v W H f) (t .3) (r .3))
 
   -- points that pass ground 8, at a place that is 15 from the edges: each of the four operations
-  pub part-made : (op : Operation) (P : List Point) → T (not (outOfRange P)) → (x y : ℕ) → Amid w W a 15 x → Amid h H b 15 y
-      → made op (occupied (frame v w h g)) (In P) (pos x, pos y) ↔ made op (occupied (frame v W H f)) (In P) (pos (a + x), pos (b + y))
-  part-made op P o x y A B =
-      within P o op (occupied (frame v w h g)) (occupied (frame v W H f)) (pos x, pos y) (pos (a + x), pos (b + y)) (λ d n.
-      let e = part-cell 15 15 x y d A B (n .0) (n .1) in (λ q. sym e ∙ q, λ q. e ∙ q))
+  pub part-made : (op : Operation) (P : List Point) → T (not (outOfRange P)) → (x y : ℕ) → Amid w W a 15 x → Amid h H b 15 y → (g′ f′ : Point → ℕ)
+      → Made op (In P) (frame v w h g) g′ → Made op (In P) (frame v W H f) f′ → g′ (pos x, pos y) ≡ f′ (pos (a + x), pos (b + y))
+  part-made op P o x y A B g′ f′ m n =
+      within P o op (frame v w h g) (frame v W H f) g′ f′ (pos x, pos y) (pos (a + x), pos (b + y)) m n (λ d k. part-cell 15 15 x y d A B (k .0) (k .1))
 
 -- ---- whole rows: h of the rows of a frame, from row a on, and the dilation at a row no nearer to an end than the greatest |y|
 
 pub part-dilation : (W H h a : ℕ) (f g : List ℕ) → ((x y : ℕ) → x < W → y < h → getD g (y * W + x) 0 ≡ getD f ((a + y) * W + x) 0)
     → (P : List Point) (x y : ℕ) → x < W → Amid h H a (greatestY P) y
-    → dilatedBy W h g (In P) (pos x, pos y) ↔ dilatedBy W H f (In P) (pos x, pos (a + y))
-part-dilation W H h a f g same P x y l B =
-    within-rows P (occupied (frame free W h g)) (occupied (frame free W H f)) (pos x, pos y) (pos x, pos (a + y)) (λ d n.
-    let e = cell d n in (λ q. sym e ∙ q, λ q. e ∙ q))
+    → (v : ℕ) → DilatedTo W h g (In P) (pos x, pos y) v ↔ DilatedTo W H f (In P) (pos x, pos (a + y)) v
+part-dilation W H h a f g same P x y l B = within-rows P (frame free W h g) (frame free W H f) (pos x, pos y) (pos x, pos (a + y)) cell
   where
     same′ : (x y : ℕ) → x < W → y < h → getD g (y * W + x) free ≡ getD f ((a + y) * W + (0 + x)) free
     same′ x y h k = same x y h k ∙ ap (λ n. getD f ((a + y) * W + n) 0) (omega arith)

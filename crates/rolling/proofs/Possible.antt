@@ -1,75 +1,42 @@
 -- The promise can be kept on every input, and in one way only: the kept frame is brought up to date cell by cell, each moved or worked out anew.
 use mathlib.Core.Path.{_≡_, refl, sym, _∙_, ap, subst}
 use mathlib.Core.Logic.{_⊎_, inl, inr}
-use mathlib.Core.Bool.{Bool, false, not, cond}
-use mathlib.Core.List.{List, [], _∷_, _++_}
-use Prim.Native.Nat.{ℕ, zero, suc, _+_, _*_, _≤_, _<_}
+use mathlib.Core.Bool.{false, not, cond}
+use mathlib.Core.List.{List, [], _∷_}
+use Prim.Native.Nat.{ℕ, suc, _+_, _*_, _<_}
 use native.Mathlib.Omega.{arith}
-use native.Mathlib.Decide.{ℕ-discrete}
 use native.Mathlib.Nat.{mul-comm}
-use lib.Dec.{T, ltb, eqb, eqb→eq}
+use lib.Dec.{T, eqb, eqb→eq}
 use lib.IntN.{pos, natAbs}
-use lib.ListN.{getD, take, drop}
-use Rattle.plane.specs.Lists.{In, any}
+use lib.ListN.{getD}
+use Rattle.plane.specs.Lists.{In}
 use Rattle.plane.specs.Point.{Point}
-use Rattle.plane.proofs.Tests.{T-dec, T-true, T-false, clash, eq-eqb, not-or}
+use Rattle.plane.proofs.Tests.{T-dec, T-true, T-false, clash, eq-eqb}
 use Rattle.words.specs.Ground.{firstOf, stated, result}
 use Rattle.words.specs.declared.Answer.{Answer}
 use Rattle.words.specs.declared.Answer.the-variants.{Done}
 use Rattle.words.proofs.Kept.{can-keep}
 use Rattle.words.proofs.Refusals.{stated-once}
 use Rattle.shapes.specs.Plan.{planPoints, planTests}
-use Rattle.grids.specs.Frame.{free, greater, frame, badCell}
+use Rattle.grids.specs.Frame.{free, highest, greater, frame, badCell}
 use Rattle.grids.specs.declared.Around.the-variants.{Free}
 use Rattle.grids.specs.Image.{cells, dilated}
 use Rattle.grids.proofs.Pictures.{getD-cells, length-cells}
-use Rattle.grids.proofs.Putting.{frame-binary}
-use Rattle.grids.proofs.Stage.{Binary, D-set, over-binary}
-use Rattle.cleaning.specs.Operation.{Says}
-use Rattle.cleaning.proofs.Fixed.{says-once, cells-once}
-use Rattle.cleaning.proofs.Plans.{binary}
+use Rattle.grids.proofs.Putting.{frame-upto}
+use Rattle.grids.proofs.Rules.{gives-once, over-makes}
+use Rattle.cleaning.proofs.Fixed.{cells-once}
+use Rattle.cleaning.proofs.Plans.{passing}
 use Rattle.rolling.specs.Claim.{Arrivals, Possible}
-use Rattle.rolling.specs.Rolling.{rolled, greatestY, farther, dilatedBy, arrivalTests, Rolled, Arrived}
+use Rattle.rolling.specs.Rolling.{rolled, greatestY, farther, DilatedTo, arrivalTests, Rolled, Arrived}
+use Rattle.rolling.proofs.Clean.{rolled-clean}
 use Rattle.rolling.proofs.Rolls.{Accepted, call-accepted}
 
--- ---- cells that are worked out
+-- ---- the cells that are worked out
 
--- rows that are joined, or of which some leave, have no cell that fails a test where none had one
-module _ (f : ℕ → Bool) where
-  pub none-append : (xs ys : List ℕ) → T (not (any f xs)) → T (not (any f ys)) → T (not (any f (xs ++ ys)))
-  none-append [] ys t u = u
-  none-append (x ∷ xs) ys t u = let v = not-or (f x) (any f xs) .0 t in not-or (f x) (any f (xs ++ ys)) .1 (v .0, none-append xs ys (v .1) u)
-
-  pub none-drop : (n : ℕ) (xs : List ℕ) → T (not (any f xs)) → T (not (any f (drop n xs)))
-  none-drop zero xs t = t
-  none-drop (suc n) [] t = t
-  none-drop (suc n) (x ∷ xs) t = none-drop n xs (not-or (f x) (any f xs) .0 t .1)
-
-  pub none-take : (n : ℕ) (xs : List ℕ) → T (not (any f xs)) → T (not (any f (take n xs)))
-  none-take zero xs t = tt
-  none-take (suc n) [] t = t
-  none-take (suc n) (x ∷ xs) t = let u = not-or (f x) (any f xs) .0 t in not-or (f x) (any f (take n xs)) .1 (u .0, none-take n xs (u .1))
-
-pub rolled-clean : (W : ℕ) (live row : List ℕ) → T (not (badCell live)) → T (not (badCell row)) → T (not (badCell (rolled W live row)))
-rolled-clean W live row t u = none-append (ltb 1) (drop W live) row (none-drop (ltb 1) W live t) u
-
--- a cell of a picture of 0 and 1 says whether its point is occupied in the dilation
-says-dilated : (P : List Point) (W H : ℕ) (f : List ℕ) → T (not (badCell f)) → (p : Point)
-    → Says (dilated greater free P (frame free W H f) p) (dilatedBy W H f (In P) p)
-says-dilated P W H f t p = go (ℕ-discrete v 1)
-  where
-    b : Binary (frame free W H f)
-    b = frame-binary Free W H f (binary f t)
-
-    v : ℕ
-    v = dilated greater free P (frame free W H f) p
-
-    low : v ≤ 1
-    low = over-binary false P (frame free W H f) b p
-
-    go : Dec (v ≡ 1) → Says v (dilatedBy W H f (In P) p)
-    go (yes q) = inl (q, D-set P (frame free W H f) b p .0 q)
-    go (no q) = inr (let z = low in omega arith, λ d. q (D-set P (frame free W H f) b p .1 d))
+-- the greatest of the cells covered is what the rule gives
+dilated-gives : (P : List Point) (W H : ℕ) (f : List ℕ) → T (not (badCell f)) → (p : Point)
+    → DilatedTo W H f (In P) p (dilated greater free P (frame free W H f) p)
+dilated-gives P W H f t p = over-makes false P (frame free W H f) (frame-upto highest (omega arith) Free W H f (passing f t)) p
 
 -- ---- the kept frame, brought up to date
 
@@ -94,8 +61,8 @@ brought P W H row live kept a = record {
   anew = λ x r h k t.
       let e = getD-cells W H (broughtAt W H P l kept) x r 0 h k
       ∙ ap (λ b. cond b (getD kept (suc r * W + x) 0) (dilated greater free P (frame free W H l) (pos x, pos r))) (T-false (farther H (greatestY P) r) t) in
-      subst (λ n. Says n (dilatedBy W H l (In P) (pos x, pos r))) (sym e)
-      (says-dilated P W H l (rolled-clean W live row (a .live-clean) (a .row-clean)) (pos x, pos r));
+      subst (DilatedTo W H l (In P) (pos x, pos r)) (sym e)
+      (dilated-gives P W H l (rolled-clean W live row (a .live-clean) (a .row-clean)) (pos x, pos r));
 }
   where
     l : List ℕ
@@ -142,8 +109,8 @@ rolled-once P W H row live kept l k l′ k′ R S = (frames, cells-once W H k k�
     at : (x r : ℕ) → x < W → r < H → T (farther H Y r) ⊎ T (not (farther H Y r)) → getD k (r * W + x) 0 ≡ getD k′ (r * W + x) 0
     at x r h j (inl t) = R .moved x r h j t ∙ sym (S .moved x r h j t)
     at x r h j (inr t) =
-        says-once (dilatedBy W H l′ (In P) (pos x, pos r)) (getD k (r * W + x) 0) (getD k′ (r * W + x) 0)
-        (subst (λ f. Says (getD k (r * W + x) 0) (dilatedBy W H f (In P) (pos x, pos r))) frames (R .anew x r h j t)) (S .anew x r h j t)
+        gives-once false (In P) (frame free W H l′) (pos x, pos r) (getD k (r * W + x) 0) (getD k′ (r * W + x) 0)
+        (subst (λ f. DilatedTo W H f (In P) (pos x, pos r) (getD k (r * W + x) 0)) frames (R .anew x r h j t)) (S .anew x r h j t)
 
 pub arrived-once : (plan : List ℕ) (W H : ℕ) (row live kept : List ℕ) (s t : Answer) (l k l′ k′ : List ℕ)
     → Arrived plan W H row live kept s l k → Arrived plan W H row live kept t l′ k′

@@ -1,5 +1,5 @@
--- The rows now present. Frames that a call leaves are again W × H cells of 0 and 1, so that no later refusal is owed to them: whether a row is taken is a
--- matter of the plan, of W and H and of the row. The live frame is then the free rows of the start and the rows taken, less as many rows as were taken.
+-- The rows now present. Frames that a call leaves are again W × H cells that pass ground 13, so that no later refusal is owed to them: whether a row is taken is
+-- a matter of the plan, of W and H and of the row. The live frame is then the free rows of the start and the rows taken, less as many rows as were taken.
 use mathlib.Core.Path.{_≡_, sym, _∙_, ap, ap₂, subst}
 use mathlib.Core.Logic.{_⊎_, inl, inr}
 use mathlib.Core.Bool.{Bool, false, not, cond, _||_}
@@ -8,30 +8,31 @@ use Prim.Native.Nat.{ℕ, zero, suc, _+_, _*_, _≤_, _<_, zero-le, suc-le-suc}
 use native.Mathlib.Omega.{arith}
 use native.Mathlib.Nat.{mul-comm, mul-le-mul-right}
 use lib.Dec.{T, ltb, eqb, eqb→eq}
+use lib.IntN.{pos}
 use lib.ListN.{length, getD, drop, length-append, length-drop, length-replicate, getD-replicate}
 use lib.Seq.{drop-append-le, drop-drop}
-use Rattle.plane.specs.Lists.{keep, flat}
+use Rattle.plane.specs.Lists.{In, keep, flat}
 use Rattle.plane.specs.Point.{Point}
 use Rattle.plane.proofs.Tests.{T-dec, T-true, T-false, clash, eq-eqb, not-or, not-ltb, not-not}
 use Rattle.words.specs.Ground.{firstOf}
 use Rattle.shapes.specs.Plan.{planPoints, planTests}
-use Rattle.grids.specs.Frame.{free, badSide, badSize, wrongLength, badCell}
+use Rattle.grids.specs.Frame.{free, highest, frame, badSide, badSize, wrongLength, badCell}
 use Rattle.grids.proofs.Pictures.{at-places}
-use Rattle.cleaning.specs.Operation.{Says}
-use Rattle.cleaning.proofs.Plans.{binary}
+use Rattle.grids.proofs.Rules.{gives-upto}
+use Rattle.cleaning.proofs.Plans.{passing}
 use Rattle.rolling.specs.Claim.{allFree, Arrivals, takesRow, Present}
 use Rattle.rolling.specs.Rolling.{rolled, greatestY, farther, wrongRow, arrivalTests, Rolled, Arrived}
-use Rattle.rolling.proofs.Possible.{rolled-clean}
+use Rattle.rolling.proofs.Clean.{rolled-clean}
 use Rattle.rolling.proofs.Rolls.{Accepted, call-accepted}
 
--- W × H cells of 0 and 1
+-- W × H cells that pass ground 13
 pub record Good (W H : ℕ) (f : List ℕ) : Type 0 where
   pub size : length f ≡ W * H
   pub clean : T (not (badCell f))
 
-none-bad : (f : List ℕ) → ((i : ℕ) → i < length f → getD f i 0 ≤ 1) → T (not (badCell f))
+none-bad : (f : List ℕ) → ((i : ℕ) → i < length f → getD f i 0 ≤ highest) → T (not (badCell f))
 none-bad [] h = tt
-none-bad (v ∷ f) h = not-or (ltb 1 v) (badCell f) .1 (not-ltb 1 v (h 0 (suc-le-suc zero-le)), none-bad f (λ i l. h (suc i) (suc-le-suc l)))
+none-bad (v ∷ f) h = not-or (ltb highest v) (badCell f) .1 (not-ltb highest v (h 0 (suc-le-suc zero-le)), none-bad f (λ i l. h (suc i) (suc-le-suc l)))
 
 pub free-good : (W H : ℕ) → Good W H (allFree W H)
 free-good W H = record {
@@ -64,16 +65,12 @@ module _ (W H : ℕ) (row live kept : List ℕ) (A : Accepted W H row live kept)
   kept-good P live′ kept′ R = record {
     size = R .size;
     clean = none-bad kept′ (λ i h.
-        at-places W H (λ n. getD kept′ n 0 ≤ 1) (λ x r h k. low x r h k (T-dec (farther H (greatestY P) r))) i (subst (λ n. i < n) (R .size) h));
+        at-places W H (λ n. getD kept′ n 0 ≤ highest) (λ x r h k. low x r h k (T-dec (farther H (greatestY P) r))) i (subst (λ n. i < n) (R .size) h));
   }
     where
-      said : {S : Type 0} (v : ℕ) → Says v S → v ≤ 1
-      said v (inl h) = let e = h .0 in omega arith
-      said v (inr h) = let e = h .0 in omega arith
-
-      low : (x r : ℕ) → x < W → r < H → T (farther H (greatestY P) r) ⊎ T (not (farther H (greatestY P) r)) → getD kept′ (r * W + x) 0 ≤ 1
-      low x r h k (inl t) = let e = R .moved x r h k t in let b = binary kept (A .kept-clean) (suc r * W + x) in omega arith
-      low x r h k (inr t) = said (getD kept′ (r * W + x) 0) (R .anew x r h k t)
+      low : (x r : ℕ) → x < W → r < H → T (farther H (greatestY P) r) ⊎ T (not (farther H (greatestY P) r)) → getD kept′ (r * W + x) 0 ≤ highest
+      low x r h k (inl t) = let e = R .moved x r h k t in let b = passing kept (A .kept-clean) (suc r * W + x) in omega arith
+      low x r h k (inr t) = gives-upto false (In P) (frame free W H live′) (pos x, pos r) (getD kept′ (r * W + x) 0) (R .anew x r h k t)
 
 -- ---- refusals are owed to the plan, to W and H, and to the row
 

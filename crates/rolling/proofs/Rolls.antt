@@ -1,8 +1,8 @@
 -- The step, and the claim by induction over the arrivals. The rows that stay are a part of the live frame before and of the live frame now; a row that is only
 -- moved is far enough from both ends of that part, so the dilation of either frame there is that of the part.
 use mathlib.Core.Path.{_≡_, refl, sym, _∙_, ap, subst}
-use mathlib.Core.Logic.{_↔_, _⊎_, inl, inr}
-use mathlib.Core.Bool.{not, _&&_, _||_}
+use mathlib.Core.Logic.{_⊎_, inl, inr}
+use mathlib.Core.Bool.{false, not, _&&_, _||_}
 use mathlib.Core.List.{List, [], _∷_}
 use Prim.Native.Nat.{ℕ, suc, _+_, _-_, _*_, _≤_, _<_}
 use native.Mathlib.Omega.{arith}
@@ -12,7 +12,7 @@ use lib.IntN.{ℤ, pos, negsuc}
 use lib.ListN.{length, getD, take, drop, replicate, length-drop, length-replicate, getD-replicate, List·getD-append, List·getD-eq-default}
 use lib.Seq.{getD-drop}
 use Rattle.plane.specs.Lists.{In}
-use Rattle.plane.specs.Point.{Point, PointSet}
+use Rattle.plane.specs.Point.{Point, PointSet, _-ᵖ_}
 use Rattle.plane.proofs.Tests.{T-and, T-dec, clash, cond-ind, un-not, eq-eqb, not-or, lt-or-le}
 use Rattle.words.specs.Ground.{firstOf, stated}
 use Rattle.words.proofs.Refusals.{clear}
@@ -20,14 +20,19 @@ use Rattle.shapes.specs.Plan.{planPoints, planTests, planWords}
 use Rattle.shapes.proofs.Written.{plan-stands}
 use Rattle.planning.specs.Planning.{ShapeSet}
 use Rattle.planning.proofs.Decided.{accepted, written-words}
-use Rattle.grids.specs.Frame.{free, badSize, wrongLength, badCell}
-use Rattle.grids.specs.Image.{valueAt}
-use Rattle.cleaning.specs.Operation.{Says}
+use Rattle.grids.specs.Frame.{free, highest, frame, over, badSize, wrongLength, badCell}
+use Rattle.grids.specs.Image.{valueAt, cells}
+use Rattle.grids.specs.Rules.{SomeCovered, Makes}
+use Rattle.grids.specs.declared.Around.the-variants.{Free}
+use Rattle.grids.proofs.Pictures.{getD-cells, length-cells}
+use Rattle.grids.proofs.Putting.{frame-upto}
+use Rattle.grids.proofs.Rules.{gives-once, over-makes}
 use Rattle.cleaning.specs.declared.Operation.the-variants.{Dilation}
-use Rattle.cleaning.proofs.Fixed.{says-same}
-use Rattle.cleaning.proofs.Turn.{same-direct}
+use Rattle.cleaning.proofs.Fixed.{cells-once, direct-cell, same-direct}
+use Rattle.cleaning.proofs.Plans.{passing}
 use Rattle.rolling.specs.Claim.{allFree, Arrivals, Right, Step, Rolling, ShapeRolling}
-use Rattle.rolling.specs.Rolling.{rolled, greatestY, farther, dilatedBy, arrivalTests, Rolled}
+use Rattle.rolling.specs.Rolling.{rolled, greatestY, farther, DilatedTo, arrivalTests, Rolled}
+use Rattle.rolling.proofs.Clean.{rolled-clean}
 use Rattle.rolling.proofs.Part.{part-dilation}
 
 -- ---- an accepted call
@@ -75,41 +80,58 @@ module _ (W H : ℕ) (live row : List ℕ) (size : length live ≡ W * H) where
 
   -- the dilation at a row that is only moved is what it was one row below
   pub up-dilation : (P : List Point) (x r : ℕ) → x < W → T (farther H (greatestY P) r)
-      → dilatedBy W H live (In P) (pos x, pos (suc r)) ↔ dilatedBy W H (rolled W live row) (In P) (pos x, pos r)
-  up-dilation P x r h t =
+      → (v : ℕ) → DilatedTo W H live (In P) (pos x, pos (suc r)) v → DilatedTo W H (rolled W live row) (In P) (pos x, pos r) v
+  up-dilation P x r h t v d =
       let Y = greatestY P in
       let u = T-and (ltb Y r) (ltb Y (H - 1 - r)) .0 t in
       let above = ltb→lt Y r (u .0) in
       let below = ltb→lt Y (H - 1 - r) (u .1) in
       let old = part-dilation W H (H - 1) 1 live (drop W live) before P x r h
-      (record { inner = omega arith; here = omega arith; first = inr (omega arith); last = inl (omega arith) }) in
+      (record { inner = omega arith; here = omega arith; first = inr (omega arith); last = inl (omega arith) }) v in
       let new = part-dilation W H (H - 1) 0 (rolled W live row) (drop W live) now P x r h
-      (record { inner = omega arith; here = omega arith; first = inl refl; last = inr (omega arith) }) in
+      (record { inner = omega arith; here = omega arith; first = inl refl; last = inr (omega arith) }) v in
       let e : 1 + r ≡ suc r = omega arith in
-      let f : 0 + r ≡ r = omega arith in (
-        λ d. subst (λ n. dilatedBy W H (rolled W live row) (In P) (pos x, pos n)) f
-            (new .0 (old .1 (subst (λ n. dilatedBy W H live (In P) (pos x, pos n)) (sym e) d))),
-        λ d. subst (λ n. dilatedBy W H live (In P) (pos x, pos n)) e
-            (old .0 (new .1 (subst (λ n. dilatedBy W H (rolled W live row) (In P) (pos x, pos n)) (sym f) d))),
-      )
+      let f : 0 + r ≡ r = omega arith in
+      subst (λ n. DilatedTo W H (rolled W live row) (In P) (pos x, pos n) v) f
+      (new .0 (old .1 (subst (λ n. DilatedTo W H live (In P) (pos x, pos n) v) (sym e) d)))
 
 -- ---- the step
 
+-- a kept frame whose cells are what the rule gives is right
+dilated-right : (P : List Point) (W H : ℕ) (live kept : List ℕ) → T (not (badCell live)) → length kept ≡ W * H
+    → ((x r : ℕ) → x < W → r < H → DilatedTo W H live (In P) (pos x, pos r) (getD kept (r * W + x) 0)) → Right W H (In P) live kept
+dilated-right P W H live kept clean size cell = record {
+  picture = over false P F;
+  made = m;
+  cut = cells-once W H kept (cells W H (over false P F)) size (length-cells W H (over false P F) ∙ mul-comm H W) (λ x r h k.
+      gives-once false (In P) F (pos x, pos r) (getD kept (r * W + x) 0) (over false P F (pos x, pos r)) (cell x r h k) (m (pos x, pos r))
+      ∙ sym (getD-cells W H (over false P F) x r 0 h k));
+}
+  where
+    F : Point → ℕ
+    F = frame free W H live
+
+    m : Makes false (In P) F (over false P F)
+    m = over-makes false P F (frame-upto highest (omega arith) Free W H live (passing live clean))
+
 pub rolled-right : (P : List Point) (W H : ℕ) (row live kept live′ kept′ : List ℕ) → Accepted W H row live kept → Rolled P W H row live kept live′ kept′
     → Right W H (In P) live kept → Right W H (In P) live′ kept′
-rolled-right P W H row live kept live′ kept′ A R D = record { size = R .size; cell = λ x r h k. go x r h k (T-dec (farther H (greatestY P) r)) }
+rolled-right P W H row live kept live′ kept′ A R D =
+    dilated-right P W H live′ kept′ (subst (λ l. T (not (badCell l))) (sym (R .shown)) (rolled-clean W live row (A .live-clean) (A .row-clean))) (R .size)
+    (λ x r h k. go x r h k (T-dec (farther H (greatestY P) r)))
   where
     Y : ℕ
     Y = greatestY P
 
-    go : (x r : ℕ) → x < W → r < H → T (farther H Y r) ⊎ T (not (farther H Y r)) → Says (getD kept′ (r * W + x) 0) (dilatedBy W H live′ (In P) (pos x, pos r))
+    go : (x r : ℕ) → x < W → r < H → T (farther H Y r) ⊎ T (not (farther H Y r)) → DilatedTo W H live′ (In P) (pos x, pos r) (getD kept′ (r * W + x) 0)
     go x r h k (inr t) = R .anew x r h k t
     go x r h k (inl t) =
         let u = ltb→lt Y (H - 1 - r) (T-and (ltb Y r) (ltb Y (H - 1 - r)) .0 t .1) in
-        let before = D .cell x (suc r) h (omega arith) in
-        let up = says-same (getD kept (suc r * W + x) 0) (up-dilation W H live row (A .live-size) P x r h t) before in
-        let here = subst (λ n. Says n (dilatedBy W H (rolled W live row) (In P) (pos x, pos r))) (sym (R .moved x r h k t)) up in
-        subst (λ l. Says (getD kept′ (r * W + x) 0) (dilatedBy W H l (In P) (pos x, pos r))) (sym (R .shown)) here
+        let p : Point = (pos x, pos (suc r)) in
+        let before = subst (DilatedTo W H live (In P) p) (sym (direct-cell Dilation W H live (In P) kept D x (suc r) h (omega arith))) (D .made p) in
+        let up = up-dilation W H live row (A .live-size) P x r h t (getD kept (suc r * W + x) 0) before in
+        let here = subst (DilatedTo W H (rolled W live row) (In P) (pos x, pos r)) (sym (R .moved x r h k t)) up in
+        subst (λ l. DilatedTo W H l (In P) (pos x, pos r) (getD kept′ (r * W + x) 0)) (sym (R .shown)) here
 
 pub step : Step
 step plan W H row live kept s live′ kept′ a D = go (T-dec (eqb (firstOf (arrivalTests plan W H row live kept)) 0))
@@ -137,7 +159,7 @@ steps plan W H [] live kept live′ kept′ a D =
 steps plan W H (row ∷ rows) live kept live′ kept′ a D =
     steps plan W H rows (a .1) (a .2) live′ kept′ (a .4) (step plan W H row live kept (a .0) (a .1) (a .2) (a .3) D)
 
--- no cell of a free frame is occupied, and nothing is what any points give of it
+-- a free frame is free everywhere, and so is what any points give of it
 free-cell : (n i : ℕ) → getD (replicate n free) i free ≡ free
 free-cell n i = go (lt-or-le i n)
   where
@@ -145,18 +167,23 @@ free-cell n i = go (lt-or-le i n)
     go (inl h) = getD-replicate n i free free h
     go (inr h) = List·getD-eq-default (replicate n free) free {n = i} (let e = length-replicate n free in omega arith)
 
-none-occupied : (W H : ℕ) (x y : ℤ) → valueAt free W H (allFree W H) x y ≡ 0
+all-free : (W H : ℕ) (x y : ℤ) → valueAt free W H (allFree W H) x y ≡ 0
 unfolding valueAt
-none-occupied W H (pos x) (pos y) =
+all-free W H (pos x) (pos y) =
     cond-ind (ltb x W && ltb y H) (getD (allFree W H) (y * W + x) free) free (λ v. v ≡ 0) (λ _. free-cell (W * H) (y * W + x)) (λ _. refl)
-none-occupied W H (pos x) (negsuc y) = refl
-none-occupied W H (negsuc x) y = refl
+all-free W H (pos x) (negsuc y) = refl
+all-free W H (negsuc x) y = refl
 
 pub free-right : (W H : ℕ) (A : PointSet) → Right W H A (allFree W H) (allFree W H)
 free-right W H A = record {
-  size = length-replicate (W * H) free;
-  cell = λ x y h k. inr (free-cell (W * H) (y * W + x), λ d. let z = none-occupied W H (d .0 .0) (d .0 .1) in let o = d .2 in absurd (omega arith));
+  picture = λ p. free;
+  made = λ p. inr (inr (refl, none p 1 (omega arith), none p 2 (omega arith)));
+  cut = cells-once W H (allFree W H) (cells W H (λ p. free)) (length-replicate (W * H) free) (length-cells W H (λ p. free) ∙ mul-comm H W) (λ x y h k.
+      free-cell (W * H) (y * W + x) ∙ sym (getD-cells W H (λ p. free) x y 0 h k));
 }
+  where
+    none : (p : Point) (v : ℕ) → 1 ≤ v → SomeCovered false A (frame free W H (allFree W H)) p v → ⊥
+    none p v l c = let q = p -ᵖ c .0 in let z = all-free W H (q .0) (q .1) in omega (arith, c .2)
 
 pub rolling : Rolling
 rolling plan W H rows live kept a = steps plan W H rows (allFree W H) (allFree W H) live kept a (free-right W H (In (planPoints plan)))

@@ -1,6 +1,6 @@
 -- Document 02, W1: a row arrives in the live frame, and the dilated frame kept beside it is brought up to date. What a call promises.
 use mathlib.Core.Path.{_≡_}
-use mathlib.Core.Bool.{Bool, not, _&&_, _||_}
+use mathlib.Core.Bool.{Bool, false, not, _&&_, _||_}
 use mathlib.Core.List.{List, [], _∷_, _++_}
 use Prim.Native.Nat.{ℕ, suc, _+_, _-_, _*_, _<_, max}
 use lib.Dec.{T, ltb, eqb}
@@ -11,8 +11,9 @@ use Rattle.plane.specs.Point.{Point, PointSet}
 use Rattle.words.specs.Ground.{Test, stated, result, Answered}
 use Rattle.words.specs.declared.Answer.{Answer}
 use Rattle.shapes.specs.Plan.{planPoints, planTests}
-use Rattle.grids.specs.Frame.{occupied, badSize, wrongLength, badCell}
-use Rattle.cleaning.specs.Operation.{asRead, made, Says}
+use Rattle.grids.specs.Frame.{badSize, wrongLength, badCell}
+use Rattle.grids.specs.Rules.{Gives}
+use Rattle.cleaning.specs.Operation.{asRead}
 use Rattle.cleaning.specs.declared.Operation.the-variants.{Dilation}
 
 -- ---- the frames
@@ -30,9 +31,9 @@ greatestY (p ∷ P) = max (natAbs (p .1)) (greatestY P)
 abbrev pub farther : ℕ → ℕ → ℕ → Bool
 farther H Y r = ltb Y r && ltb Y (H - 1 - r)
 
--- the points that are occupied in the dilation of the frame f by the points A
-abbrev pub dilatedBy : ℕ → ℕ → List ℕ → PointSet → PointSet
-dilatedBy W H f A = made Dilation (occupied (asRead Dilation W H f)) A
+-- the dilation of the frame f by the points A gives v at the point p
+abbrev pub DilatedTo : ℕ → ℕ → List ℕ → PointSet → Point → ℕ → Type 0
+DilatedTo W H f A p v = Gives false A (asRead Dilation W H f) p v
 
 -- ---- grounds
 
@@ -59,7 +60,7 @@ pub record Rolled (P : List Point) (W H : ℕ) (row live kept live′ kept′ : 
   pub shown : live′ ≡ rolled W live row
   pub size : length kept′ ≡ W * H
   pub moved : (x r : ℕ) → x < W → r < H → T (farther H (greatestY P) r) → getD kept′ (r * W + x) 0 ≡ getD kept (suc r * W + x) 0
-  pub anew : (x r : ℕ) → x < W → r < H → T (not (farther H (greatestY P) r)) → Says (getD kept′ (r * W + x) 0) (dilatedBy W H live′ (In P) (pos x, pos r))
+  pub anew : (x r : ℕ) → x < W → r < H → T (not (farther H (greatestY P) r)) → DilatedTo W H live′ (In P) (pos x, pos r) (getD kept′ (r * W + x) 0)
 
 -- where a ground holds, the first is the answer and both frames stay as they are; else the result is 0 and the row arrived
 abbrev pub Arrived : List ℕ → ℕ → ℕ → List ℕ → List ℕ → List ℕ → Answer → List ℕ → List ℕ → Type 0

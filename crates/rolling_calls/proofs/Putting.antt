@@ -1,26 +1,24 @@
 -- Rows of one end, written into a part of the kept frame; and that both ends are ready to be.
 use mathlib.Core.Path.{_≡_, refl, sym, _∙_, ap, subst}
 use mathlib.Core.Logic.{_⊎_, inl, inr}
-use mathlib.Core.Bool.{false}
+use mathlib.Core.Bool.{false, not}
 use mathlib.Core.List.{List}
 use Prim.Native.Nat.{ℕ, _+_, _-_, _*_, _≤_, _<_}
 use native.Mathlib.Omega.{arith}
 use native.Mathlib.Nat.{add-mul, mul-comm, mul-le-mul, mul-le-mul-right}
 use borrow.Author.Tests.{le-ltb, ne-eqb}
 use borrow.Rule.Slice.PartMut.{midOf, putMid, mid-len}
-use lib.Dec.{ltb}
+use lib.Dec.{T, ltb}
 use lib.ListN.{length, getD, take, drop, List·getD-eq-default}
 use Rattle.shapes.specs.Plan.{planMasks, planOffset}
 use Rattle.plan_grounds.proofs.Accepted.{plan-length, place-small}
-use Rattle.grids.specs.Frame.{badSize}
+use Rattle.grids.specs.Frame.{highest, badSize, badCell}
 use Rattle.ranges.specs.Ranges.{Ranged}
 use Rattle.ranges.proofs.Ranges.{ranged-part}
-use Rattle.planes.specs.Planes.{lowBits}
-use Rattle.planes.proofs.OnGrids.{low-bits}
 use Rattle.cleaning.specs.Operation.{inTurn}
 use Rattle.cleaning.specs.declared.Operation.the-variants.{Dilation}
 use Rattle.rolling.specs.Ends.{rowsOf, nearRows, partRows, EndPut}
-use Rattle.rolling.proofs.Possible.{none-drop, none-take}
+use Rattle.rolling.proofs.Clean.{none-drop, none-take}
 use Rattle.end_steps.specs.Ends.{EndPart, EndRows}
 use Rattle.rolling_calls.specs.Rows.{EndReady, Reworked, BothPut}
 
@@ -60,22 +58,25 @@ module _ {plan live kept : List ℕ} {W a e b t : ℕ} (R : EndReady plan W a e 
   part-is : part ≡ rowsOf W a e live
   part-is = ap (λ n. take n (drop (a * W) live)) (rows-between a e W)
 
-  part-clean : lowBits part ≡ rowsOf W a e live
-  part-clean = low-bits part (none-take (ltb 1) ((a + e) * W - a * W) (drop (a * W) live) (none-drop (ltb 1) (a * W) live (R .clean))) ∙ part-is
+  part-clean : T (not (badCell part))
+  part-clean = none-take (ltb highest) ((a + e) * W - a * W) (drop (a * W) live) (none-drop (ltb highest) (a * W) live (R .clean))
 
   pub end-part : EndPart plan W e part (b - a) t rows
   end-part = record {
-    words = plan-length plan (R .accepted);
-    across = place-small plan (R .accepted) .0;
-    down = place-small plan (R .accepted) .1;
-    sides = R .sides;
-    rows = R .rows;
-    size = mid-len (a * W) ((a + e) * W) live (R .live-room) ∙ rows-between a e W;
+    whole = record {
+      words = plan-length plan (R .accepted);
+      across = place-small plan (R .accepted) .0;
+      down = place-small plan (R .accepted) .1;
+      sides = R .sides;
+      rows = R .rows;
+      size = mid-len (a * W) ((a + e) * W) live (R .live-room) ∙ rows-between a e W;
+      clean = part-clean;
+    };
     near = omega (arith, R .within);
     room = mid-len (b * W) ((b + t) * W) kept rows-room ∙ rows-between b t W;
   }
 
-  pub end-put : {ys : List ℕ} → EndRows plan W e (lowBits part) (b - a) t rows ys
+  pub end-put : {ys : List ℕ} → EndRows plan W e part (b - a) t rows ys
       → EndPut plan W a e live b t kept (putMid (b * W) ((b + t) * W - b * W) kept ys)
   end-put {ys} E = record { size = P .len; near = near; far = far }
     where
@@ -92,8 +93,8 @@ module _ {plan live kept : List ℕ} {W a e b t : ℕ} (R : EndReady plan W a e 
           let i : r * W + x - b * W ≡ (r - b) * W + x = omega (arith, p) in
           let j : b - a + (r - b) ≡ r - a = omega (arith, R .within .0) in
           P .at (r * W + x) (omega (arith, low)) (omega (arith, high, add-mul r 1 W)) ∙ ap (λ n. getD ys n 0) i ∙ E .row x (r - b) h (omega arith)
-          ∙ ap (λ n. getD (inTurn Dilation W e (lowBits part) (planOffset plan) (planMasks plan)) (n * W + x) 0) j
-          ∙ ap (λ f. getD (inTurn Dilation W e f (planOffset plan) (planMasks plan)) ((r - a) * W + x) 0) part-clean
+          ∙ ap (λ n. getD (inTurn Dilation W e part (planOffset plan) (planMasks plan)) (n * W + x) 0) j
+          ∙ ap (λ f. getD (inTurn Dilation W e f (planOffset plan) (planMasks plan)) ((r - a) * W + x) 0) part-is
 
       far : (x r : ℕ) → x < W → (r < b) ⊎ (b + t ≤ r) → getD (putMid (b * W) ((b + t) * W - b * W) kept ys) (r * W + x) 0 ≡ getD kept (r * W + x) 0
       far x r h (inl l) = let m = mul-le-mul-right {m = r + 1} {n = b} W (omega arith) in P .below (r * W + x) (omega (arith, m, add-mul r 1 W))

@@ -12,8 +12,9 @@ use lib.Seq.{drop-cons}
 use Rattle.words.specs.Word.{stageMask}
 use Rattle.shapes.specs.Plan.{planMasks}
 use Rattle.grids.specs.Image.{view}
-use Rattle.planes.specs.Planes.{planeSize, PlaneOnly, Shows, afterStage, stageFits, PlaneTaken}
-use Rattle.planes.proofs.OnGrids.{kept-drop, grid-stage}
+use Rattle.planes.specs.Planes.{planeSize, Shows, PlaneOnly, afterStage, stageFits, PlaneTaken}
+use Rattle.planes.specs.Bits.{level}
+use Rattle.planes.proofs.OnGrids.{after-level, grid-stage}
 use Rattle.frame_grounds.proofs.Sides.{sides}
 use Rattle.plane.specs.Point.{Point}
 use Rattle.cleaning.specs.Operation.{through}
@@ -22,15 +23,14 @@ use Rattle.turn_steps.specs.Turns.{standingImage, Shown, bytesOnce, Past
 
 -- ---- planes in images
 
--- bytes past the plane that are the same are the same past the grid
-pub kept-past : (W H : ℕ) {d d′ : List ℕ} → PlaneOnly (W + 15) (H + 15) d d′ → Past W H d d′
-kept-past W H k = record { size = k .len; rest = kept-drop W H k }
+pub kept-past : {W H : ℕ} {d d′ : List ℕ} → PlaneOnly (W + 15) (H + 15) d d′ → Past W H d d′
+kept-past k = record { size = k .len; rest = k .past }
 
 pub past-same : {W H : ℕ} {d : List ℕ} → Past W H d d
-past-same = record { size = refl; rest = refl }
+past-same = record { size = refl; rest = λ k l. refl }
 
 pub past-then : {W H : ℕ} {d d′ d″ : List ℕ} → Past W H d d′ → Past W H d′ d″ → Past W H d d″
-past-then p q = record { size = q .size ∙ p .size; rest = q .rest ∙ p .rest }
+past-then p q = record { size = q .size ∙ p .size; rest = λ k l. q .rest k l ∙ p .rest k l }
 
 -- images that have room for the plane have it for a stage
 pub room-stage : {W H : ℕ} {i j : List ℕ} → PlaneRoom W H i j → (p d : List ℕ) → planeSize (W + 15) (H + 15) ≤ length p → planeSize (W + 15) (H + 15) ≤ length d
@@ -48,11 +48,12 @@ module _ {erode : Bool} {v m W H t : ℕ} {i j : List ℕ} where
   pub from-second : {i′ : List ℕ} → (t % 2 ≡ 0 → ⊥) → PlaneTaken erode v (W + 15) (H + 15) m j i i′ → Turned erode v m W H t i j i′ j
   from-second {i′} e s = let b = ne-eqb (t % 2) 0 e in record { from = rw b; to = rw b s }
 
--- a plane that shows bytes shows them after the stage
-after-bytes : (erode : Bool) (v W H m : ℕ) (g : List ℕ)
-    → afterStage erode v (W + 15) (H + 15) m (view v (W + 15) (H + 15) g) ≡ view v (W + 15) (H + 15) (bytesOnce erode v W H m g)
-unfolding afterStage bytesOnce
-after-bytes erode v W H m g = refl
+-- a plane that shows a level of bytes shows that level of them after the stage
+after-bytes : (some erode : Bool) (v W H m : ℕ) (g : List ℕ) → v ≤ 1
+    → afterStage erode v (W + 15) (H + 15) m (λ p. level some (view v (W + 15) (H + 15) g p))
+    ≡ (λ p. level some (view v (W + 15) (H + 15) (bytesOnce erode v W H m g) p))
+unfolding bytesOnce
+after-bytes some erode v W H m g lv = after-level some erode v (W + 15) (H + 15) m (view v (W + 15) (H + 15) g) lv
 
 -- ---- turn after turn
 
@@ -96,7 +97,7 @@ both-past {W} {H} false i j i′ j′ e p = (p, subst (λ (x : List ℕ). Past W
 -- between two stages of a plan, of which those before word k were run: n in all, and what is left to run takes the grid that stands to the last one
 pub record Midway (erode : Bool) (v : ℕ) (plan : List ℕ) (W H t : ℕ) (i j : List ℕ) (k n : ℕ) (i′ j′ : List ℕ) : Type 0 where
   pub stands : List ℕ → List ℕ
-  pub shown : (g : List ℕ) → Shown v W H t g i j → Shown v W H n (stands g) i′ j′
+  pub shown : (some : Bool) (g : List ℕ) → Shown some v W H t g i j → Shown some v W H n (stands g) i′ j′
   pub left : (g : List ℕ) → through (bytesOnce erode v W H) (map stageMask (drop k plan)) (stands g) ≡ through (bytesOnce erode v W H) (planMasks plan) g
   pub first : Past W H i i′
   pub second : Past W H j j′
@@ -108,19 +109,20 @@ room-past r p q = record { sides = r .sides; first = omega (arith, r .first, p .
 
 module _ {erode : Bool} {v : ℕ} {plan : List ℕ} {W H t : ℕ} {i j : List ℕ} where
   pub midway-start : Midway erode v plan W H t i j 2 t i j
-  midway-start = record { stands = λ g. g; shown = λ g s. s; left = λ g. refl; first = past-same; second = past-same; count = refl }
+  midway-start = record { stands = λ g. g; shown = λ some g s. s; left = λ g. refl; first = past-same; second = past-same; count = refl }
 
   pub midway-more : {k n : ℕ} {i′ j′ i″ j″ : List ℕ} → Midway erode v plan W H t i j k n i′ j′ → Turned erode v (stageMask (getD plan k 0)) W H n i′ j′ i″ j″
-      → k < length plan
+      → k < length plan → v ≤ 1
       → Midway erode v plan W H t i j (k + 1) (n + 1) i″ j″
-  midway-more {k} {n} {i′} {j′} {i″} {j″} m s h =
-      let b = both-past (eqb (n % 2) 0) i′ j′ i″ j″ (s .from) (kept-past W H (s .to .kept)) in record {
+  midway-more {k} {n} {i′} {j′} {i″} {j″} m s h lv =
+      let b = both-past (eqb (n % 2) 0) i′ j′ i″ j″ (s .from) (kept-past (s .to .kept)) in record {
         stands = λ g. bytesOnce erode v W H (stageMask (getD plan k 0)) (m .stands g);
-        shown = λ g u.
-            subst (λ (x : List ℕ). Shows (W + 15) (H + 15) (view v (W + 15) (H + 15) (bytesOnce erode v W H (stageMask (getD plan k 0)) (m .stands g))) x)
-            (sym (stands-next n i″ j″))
-            (subst (λ (f : Point → ℕ). Shows (W + 15) (H + 15) f (resultImage n i″ j″)) (after-bytes erode v W H (stageMask (getD plan k 0)) (m .stands g))
-            (s .to .shown (view v (W + 15) (H + 15) (m .stands g)) (m .shown g u)));
+        shown = λ some g u.
+            let next = bytesOnce erode v W H (stageMask (getD plan k 0)) (m .stands g) in
+            subst (λ (x : List ℕ). Shows (W + 15) (H + 15) (λ p. level some (view v (W + 15) (H + 15) next p)) x) (sym (stands-next n i″ j″))
+            (subst (λ (f : Point → ℕ). Shows (W + 15) (H + 15) f (resultImage n i″ j″))
+            (after-bytes some erode v W H (stageMask (getD plan k 0)) (m .stands g) lv)
+            (s .to .shown (λ p. level some (view v (W + 15) (H + 15) (m .stands g) p)) (m .shown some g u)));
         left = λ g.
             ap (λ (q : ℕ). through (bytesOnce erode v W H) (map stageMask (drop q plan)) (bytesOnce erode v W H (stageMask (getD plan k 0)) (m .stands g)))
             (add-one k)
@@ -135,7 +137,7 @@ module _ {erode : Bool} {v : ℕ} {plan : List ℕ} {W H t : ℕ} {i j : List �
     count = let c = m .count in omega (arith, length-map (drop 2 plan) stageMask, length-drop 2 plan);
     first = m .first;
     second = m .second;
-    shown = λ g u. subst (λ (x : List ℕ). Shown v W H n x i′ j′)
+    shown = λ some g u. subst (λ (x : List ℕ). Shown some v W H n x i′ j′)
         (ap (λ ws. through (bytesOnce erode v W H) (map stageMask ws) (m .stands g)) (sym (drop-of-length-le plan {i = k} (omega arith))) ∙ m .left g)
-        (m .shown g u);
+        (m .shown some g u);
   }

@@ -27,9 +27,10 @@ unfolding bytesOnce
 stage-bytes erode k W H = fun-ext (λ m. fun-ext (λ g. sym (once-bytes erode k W H m g)))
 
 passes : (erode : Bool) (k : Around) {W H t : ℕ} {plan i j : List ℕ} {r : ℕ} {i′ j′ : List ℕ} → Passed erode (outsideOf k) plan W H t i j r i′ j′
-    → (g : List ℕ) → Shown (outsideOf k) W H t g i j → Shown (outsideOf k) W H r (through (once erode k W H) (planMasks plan) g) i′ j′
-passes erode k {W} {H} {plan = plan} {r = r} {i′} {j′} p g u =
-    subst (λ stage. Shown (outsideOf k) W H r (through stage (planMasks plan) g) i′ j′) (stage-bytes erode k W H) (p .shown g u)
+    → (some : Bool) (g : List ℕ) → Shown some (outsideOf k) W H t g i j
+    → Shown some (outsideOf k) W H r (through (once erode k W H) (planMasks plan) g) i′ j′
+passes erode k {W} {H} {plan = plan} {r = r} {i′} {j′} p some g u =
+    subst (λ stage. Shown some (outsideOf k) W H r (through stage (planMasks plan) g) i′ j′) (stage-bytes erode k W H) (p .shown some g u)
 
 module _ {plan : List ℕ} {W H : ℕ} {i j : List ℕ} (op : Operation) where
   pub dilation-ends : {r : ℕ} {i′ j′ : List ℕ} → op ≡ Dilation → Passed false 0 plan W H 0 i j r i′ j′ → Ended op plan W H i j r i′ j′
@@ -51,7 +52,7 @@ module _ {plan : List ℕ} {W H : ℕ} {i j : List ℕ} (op : Operation) where
     count = omega (arith, p .count, q .count);
     first = past-then (p .first) (q .first);
     second = past-then (p .second) (q .second);
-    shown = λ g u. passes false Free q (through (once true Free W H) (planMasks plan) g) (passes true Free p g u);
+    shown = λ some g u. passes false Free q some (through (once true Free W H) (planMasks plan) g) (passes true Free p some g u);
   })
 
   pub closing-ends : {n r : ℕ} {i′ j′ i″ j″ : List ℕ} → op ≡ Closing → Passed false 0 plan W H 0 i j n i′ j′ → Passed true 0 plan W H n i′ j′ r i″ j″
@@ -61,5 +62,5 @@ module _ {plan : List ℕ} {W H : ℕ} {i j : List ℕ} (op : Operation) where
     count = omega (arith, p .count, q .count);
     first = past-then (p .first) (q .first);
     second = past-then (p .second) (q .second);
-    shown = λ g u. passes true Free q (through (once false Free W H) (planMasks plan) g) (passes false Free p g u);
+    shown = λ some g u. passes true Free q some (through (once false Free W H) (planMasks plan) g) (passes false Free p some g u);
   })

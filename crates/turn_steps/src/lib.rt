@@ -4,7 +4,19 @@ mod turns;
 use cleaning::Operation;
 ghost use mathlib.Core.Path.{_≡_};
 ghost use mathlib.Core.Bool.{true, false};
-ghost use Rattle.turn_steps.specs.Turns.{Turnable, StagesTurned};
+ghost use Rattle.turn_steps.specs.Turns.{planeBytes, Turnable, StagesTurned};
+
+// Bytes that the plane of a frame's grid takes; 0 for sides that ground 11 refuses.
+pub fn plane_bytes(w: usize, h: usize) -> usize
+    ensures { λ r. ⌜ r ≡ planeBytes w h ⌝ }
+{
+    if frame_grounds::bad_size(w, h) {
+        return 0;
+    }
+    let columns = w + 15;
+    let rows = h + 15;
+    ((rows + 7) / 8 + 2) * (columns + 2) + 2
+}
 
 // Whether the plan list has as many words as a plan has, the sides pass, and both images have room for the plane of the frame's grid.
 fn turnable(plan: &[u32], w: usize, h: usize, first: &[u8], second: &[u8]) -> bool
@@ -20,9 +32,7 @@ fn turnable(plan: &[u32], w: usize, h: usize, first: &[u8], second: &[u8]) -> bo
     if frame_grounds::bad_size(w, h) {
         return false;
     }
-    let columns = w + 15;
-    let rows = h + 15;
-    let size = ((rows + 7) / 8 + 2) * (columns + 2) + 2;
+    let size = plane_bytes(w, h);
     if first.len() < size {
         return false;
     }

@@ -56,6 +56,7 @@ pub enum Ground {
     CellValue,
     ImageLength,
     RowLength,
+    NoneMeasured,
 }
 
 // A result, or a refusal. What the number of a result means is said by each call.
@@ -84,6 +85,7 @@ pub fn number(g: Ground) -> u32
         Ground::CellValue => 13,
         Ground::ImageLength => 14,
         Ground::RowLength => 15,
+        Ground::NoneMeasured => 16,
     }
 }
 

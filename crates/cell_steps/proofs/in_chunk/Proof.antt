@@ -11,10 +11,10 @@ use Rattle.cell_steps.proofs.in_chunk.Statement.{statement}
 use Rattle.cell_steps.proofs.in_chunk.Tie as tie
 
 abbrev Inv-loop : tie.InvT-loop
-Inv-loop cells n₀ j₀ n j = (n ≤ j) × (n + countsOf (drop j cells) ≡ countsOf cells)
+Inv-loop cells v n₀ j₀ n j = (n ≤ j) × (n + countsOf v (drop j cells) ≡ countsOf v cells)
 
 abbrev μ-loop : tie.MeasureT-loop
-μ-loop cells n₀ j₀ n j = length cells - j
+μ-loop cells v n₀ j₀ n j = length cells - j
 
 loop-holds : tie.Need-loop-holds Inv-loop μ-loop
 loop-holds c = (omega arith, omega arith)
@@ -38,7 +38,7 @@ loop-again : tie.Need-loop-again Inv-loop μ-loop
 loop-again c =
     let h = c .before .before .before .loop in
     let cells = c .before .before .before .before .before .args .cells .now in
-    let o = counts-one cells (h .j) (omega arith) in
+    let o = counts-one (c .before .before .before .before .before .args .v) cells (h .j) (omega arith) in
     let e = c .count .ensures .0 in
     (omega arith, omega arith)
 
@@ -46,7 +46,7 @@ returns : tie.Need-returns Inv-loop μ-loop
 returns c =
     let h = c .before .loop in
     let cells = c .before .before .before .args .cells .now in
-    let z = counts-none cells (h .j) (c .loop-test .left) in
+    let z = counts-none (c .before .before .before .args .v) cells (h .j) (c .loop-test .left) in
     omega arith
 
 pub in-chunk-spec : {M : Type 1} → statement M

@@ -6,15 +6,15 @@ use Prim.Native.Nat.{_+_, _-_, _≤_}
 use native.Mathlib.Omega.{arith}
 use lib.ListN.{length, drop, length-take}
 use Rattle.cell_steps.specs.Leaves.{countsOf}
-use Rattle.cell_steps.proofs.Loops.{counts-part, counts-most, counts-none, counts-load}
+use Rattle.cell_steps.proofs.Loops.{counts-part, counts-most, counts-none, counts-times}
 use Rattle.cell_steps.proofs.in_chunks.Statement.{statement}
 use Rattle.cell_steps.proofs.in_chunks.Tie as tie
 
 abbrev Inv-loop : tie.InvT-loop
-Inv-loop cells n₀ k₀ n k = (k ≤ length cells) × (n + countsOf (drop k cells) ≡ countsOf cells)
+Inv-loop cells v n₀ k₀ n k = (k ≤ length cells) × (n + countsOf v (drop k cells) ≡ countsOf v cells)
 
 abbrev μ-loop : tie.MeasureT-loop
-μ-loop cells n₀ k₀ n k = length cells - k
+μ-loop cells v n₀ k₀ n k = length cells - k
 
 loop-holds : tie.Need-loop-holds Inv-loop μ-loop
 loop-holds c = (omega arith, omega arith)
@@ -44,7 +44,7 @@ cast-n : tie.Need-cast-n Inv-loop μ-loop
 cast-n c = search needs
 
 add-n : tie.Need-add-n Inv-loop μ-loop
-add-n c = omega (arith, counts-most (c .before .before .before .before .before .args .cells .now))
+add-n c = omega (arith, counts-most (c .before .before .before .before .before .args .v) (c .before .before .before .before .before .args .cells .now))
 
 add-k : tie.Need-add-k Inv-loop μ-loop
 add-k c = omega arith
@@ -56,7 +56,7 @@ loop-again : tie.Need-loop-again Inv-loop μ-loop
 loop-again c =
     let k = c .before .before .before .loop .k in
     let cells = c .before .before .before .before .before .args .cells .now in
-    (omega arith, omega (arith, counts-part cells k (k + 224) (omega arith), c .in-chunk .ensures))
+    (omega arith, omega (arith, counts-part (c .before .before .before .before .before .args .v) cells k (k + 224) (omega arith), c .in-chunk .ensures))
 
 sub-in-chunk-2 : tie.Need-sub-in-chunk-2 Inv-loop μ-loop
 sub-in-chunk-2 c = omega arith
@@ -77,16 +77,17 @@ cast-result : tie.Need-cast-result Inv-loop μ-loop
 cast-result c = search needs
 
 add-result : tie.Need-add-result Inv-loop μ-loop
-add-result c = omega (arith, counts-most (c .before .before .before .before .before .args .cells .now))
+add-result c = omega (arith, counts-most (c .before .before .before .before .before .args .v) (c .before .before .before .before .before .args .cells .now))
 
 returns : tie.Need-returns Inv-loop μ-loop
 returns c =
     let h = c .before .before .before .loop in
     let cells = c .before .before .before .before .before .args .cells .now in
-    let p = counts-part cells (h .k) (length cells) (omega arith) in
-    let z = counts-none cells (length cells) (omega arith) in
-    let e : h .n + c .in-chunk2 .result ≡ countsOf cells = omega (arith, c .in-chunk2 .ensures) in
-    e ∙ counts-load cells
+    let v = c .before .before .before .before .before .args .v in
+    let p = counts-part v cells (h .k) (length cells) (omega arith) in
+    let z = counts-none v cells (length cells) (omega arith) in
+    let e : h .n + c .in-chunk2 .result ≡ countsOf v cells = omega (arith, c .in-chunk2 .ensures) in
+    e ∙ counts-times v cells
 
 pub in-chunks-spec : {M : Type 1} → statement M
 in-chunks-spec =

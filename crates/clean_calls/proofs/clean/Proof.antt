@@ -1,40 +1,37 @@
 -- A refusal is the answer, and nothing was written; else the frame is packed, the stages are run, and the result is cut.
 use mathlib.Core.Path.{_≡_, refl}
-use Prim.Native.Nat.{_+_}
-use lib.Dec.{T}
-use lib.ListN.{length}
+use mathlib.Core.Bool.{Bool}
+use lib.Dec.{ltb}
 use Rattle.words.specs.Ground.{firstOf}
 use Rattle.words.proofs.Tested.{no-refusal, refused-call}
 use Rattle.cleaning.specs.Cleaning.{operationTests}
-use Rattle.grids.specs.Grid.{outsideOf}
-use Rattle.planes.specs.Planes.{farOf, packFits}
 use Rattle.cleaning.specs.Operation.{around}
 use Rattle.result_steps.specs.Running.{Runnable}
 use Rattle.clean_calls.proofs.Accepted.{few-stages}
-use Rattle.clean_calls.proofs.Working.{plan-accepted, sides-small, packs, runs, ran}
+use Rattle.clean_calls.proofs.Working.{plan-accepted, packable, runs, ran}
 use native.Mathlib.Omega.{arith}
 use borrow.Author.Needs.{needs}
 use Rattle.clean_calls.proofs.clean.Statement.{statement}
 use Rattle.clean_calls.proofs.clean.Tie as tie
 
 abbrev start : tie.After-enum-told → tie.Start
-start c = c .before .before .before .before .before .before .before .before .before
+start c = c .before .before .before .before .before .before .before .before .before .before
 
 -- no ground holds, once the grounds are tried
 passed : (c : tie.After-enum-told) → let a = start c .args in
     firstOf (operationTests (a .plan .now) (a .w) (a .h) (a .frame .now) (a .first .now) (a .second .now)) ≡ 0
 passed c = let t = c .before .before .refused in no-refusal (t .result) _ (c .before .match .keys2) (t .ensures)
 
--- so the frame goes into the plane
-fits : (c : tie.After-enum-told) → let a = start c .args in let k = around (a .op) in
-    T (packFits (outsideOf k) (farOf k) (a .w) (a .h) (a .w + 15) (a .h + 15) (length (a .frame .now)) (length (a .first .now)))
-fits c =
-    let a = start c .args in
-    packs (a .plan .now) (a .w) (a .h) (a .frame .now) (a .first .now) (a .second .now) (passed c) (around (a .op))
-
--- behind the run: the place where no ground held, and the frame in the plane
+-- behind the run: the place where no ground held
 abbrev told : tie.After-run → tie.After-enum-told
 told c = c .before .before .before .before .before .before .before
+
+-- whether there are two planes
+abbrev two : tie.After-enum-told → Bool
+two c = ltb 1 (c .before .before .before .before .before .greatest-cell .result)
+
+greatest-cell-requires : tie.Need-greatest-cell-requires
+greatest-cell-requires c κs = search needs
 
 refused-requires : tie.Need-refused-requires
 refused-requires c κs = search needs
@@ -51,30 +48,31 @@ same-length-2 c = search needs
 returns : tie.Need-returns
 returns c =
     let t = c .before .before .before in
-    let a = t .before .before .before .before .before .before .before .args in
+    let a = t .before .before .before .before .before .before .before .before .args in
     refused-call (operationTests (a .plan .now) (a .w) (a .h) (a .frame .now) (a .first .now) (a .second .now)) (t .refused .result) _ (t .refused .ensures)
     (c .before .tested .given .1) refl (refl, refl)
 
 enum-told : tie.Need-enum-told
 enum-told c = search needs
 
-packed-requires : tie.Need-packed-requires
-packed-requires c κs =
+levels-requires : tie.Need-levels-requires
+levels-requires c κs =
     let k = c .before in
     let a = start k .args in
-    sides-small (a .plan .now) (a .w) (a .h) (a .frame .now) (a .first .now) (a .second .now) (passed k)
+    packable (a .plan .now) (a .w) (a .h) (a .frame .now) (a .first .now) (a .second .now) (passed k)
+    (k .before .before .before .before .before .greatest-cell .ensures)
 
 run-requires : tie.Need-run-requires
 run-requires c κs = search needs
 
 -- the frame is packed, so the stages can be run
 able : (c : tie.After-run) → let a = start (told c) .args in
-    Runnable (a .plan .now) (a .w) (a .h) (c .before .before .before .before .before .packed .last .1 .1 .1 .1 .0) (a .second .now)
+    Runnable (a .plan .now) (a .w) (a .h) (c .before .before .before .before .before .levels .last .1 .1 .1 .1 .0) (a .second .now)
 able c =
     let k = told c in
     let a = start k .args in
-    runs (a .plan .now) (a .w) (a .h) (a .frame .now) (a .first .now) (a .second .now) (passed k) (around (a .op))
-    (c .before .before .before .before .before .packed .ensures .done (fits k))
+    runs (a .plan .now) (a .w) (a .h) (a .frame .now) (a .first .now) (a .second .now) (passed k) (two k) (a .op)
+    (c .before .before .before .before .before .levels .ensures)
 
 cast-run : tie.Need-cast-run
 cast-run c =
@@ -97,20 +95,21 @@ returns-2 c =
     let k = told at in
     let a = start k .args in
     let t = at .run .ensures .through (able at) in
-    ran (a .plan .now) (a .w) (a .h) (a .frame .now) (a .first .now) (a .second .now) (passed k) (around (a .op))
-    (at .before .before .before .before .before .packed .ensures .done (fits k)) refl (t .ended) (t .away) _ refl
+    ran (a .plan .now) (a .w) (a .h) (a .frame .now) (a .first .now) (a .second .now) (passed k) (two k) (a .op)
+    (at .before .before .before .before .before .levels .ensures) (t .ended) (t .away) _ refl
 
 pub clean-spec : {M : Type 1} → statement M
 clean-spec =
     tie.close
     (tie.spec
+    greatest-cell-requires
     refused-requires
     enum-known-tested
     same-length
     same-length-2
     returns
     enum-told
-    packed-requires
+    levels-requires
     run-requires
     cast-run
     same-length-3

@@ -1,11 +1,13 @@
 -- A refused plan is refused; else the frame and the images decide.
 use borrow.Author.Needs.{needs}
 use mathlib.Core.Path.{sym, _∙_, ap}
-use Rattle.words.specs.Ground.{refusal}
+use Rattle.words.specs.Ground.{refusal, firstOf}
 use Rattle.words.proofs.Refusals.{rest-append}
 use Rattle.words.proofs.Tested.{no-refusal, refused-more}
 use Rattle.shapes.specs.Plan.{planTests}
 use Rattle.grids.specs.Grid.{workTests}
+use Rattle.frame_grounds.specs.Looking.{workTestsBy}
+use Rattle.frame_grounds.proofs.Looked.{work-by}
 use Rattle.plan_grounds.proofs.Accepted.{plan-clear}
 use Rattle.clean_calls.proofs.refused.Statement.{statement}
 use Rattle.clean_calls.proofs.refused.Tie as tie
@@ -36,8 +38,11 @@ returns-2 c =
     let a = k .before .before .before .before .before .before .args in
     let z = no-refusal (t .result) _ (k .match .keys2) (t .ensures) in
     c .work-refusal .ensures
+    ∙ ap (λ n. refusal (firstOf (workTestsBy (a .w) (a .h) (a .frame .now) n (a .first .now) (a .second .now))))
+    (k .before .before .before .before .before .before .pre)
     ∙ ap refusal
-    (sym
+    (work-by (a .w) (a .h) (a .frame .now) (a .first .now) (a .second .now)
+    ∙ sym
     (rest-append (planTests (a .plan .now)) (workTests (a .w) (a .h) (a .frame .now) (a .first .now) (a .second .now)) (plan-clear (a .plan .now) z)))
 
 pub refused-spec : {M : Type 1} → statement M

@@ -1,9 +1,10 @@
 -- A refused frame is refused; else it has at most 240 × 240 cells, and those occupied are counted.
 use borrow.Author.Needs.{needs}
-use mathlib.Core.Path.{_≡_, refl, ap}
+use mathlib.Core.Path.{_≡_, refl, _∙_, ap}
 use Rattle.words.specs.Ground.{firstOf, result}
 use Rattle.grids.specs.Frame.{frameTests}
 use Rattle.frame_grounds.proofs.Accepted.{countable}
+use Rattle.cell_steps.proofs.Loops.{times-load}
 use Rattle.words.proofs.Tested.{no-refusal, refused-call}
 use Rattle.load_calls.proofs.load.Statement.{statement}
 use Rattle.load_calls.proofs.load.Tie as tie
@@ -30,15 +31,15 @@ returns c =
 enum-told : tie.Need-enum-told
 enum-told c = search needs
 
-occupied-requires : tie.Need-occupied-requires
-occupied-requires c κs = search needs
+times-requires : tie.Need-times-requires
+times-requires c κs = search needs
 
 returns-2 : tie.Need-returns-2
 returns-2 c =
     record {
       refused = λ n. absurd (n (accepted (c .before)));
       done = λ _. let a = from-told (c .before) .args in
-          ap result (c .occupied .ensures .few (countable (a .w) (a .h) (a .frame .now) (accepted (c .before))));
+          ap result (c .times .ensures .few (countable (a .w) (a .h) (a .frame .now) (accepted (c .before))) ∙ times-load (a .frame .now));
     }
 
 pub load-spec : {M : Type 1} → statement M
@@ -49,5 +50,5 @@ load-spec =
     enum-known-tested
     returns
     enum-told
-    occupied-requires
+    times-requires
     returns-2)

@@ -12,10 +12,10 @@ use Rattle.plane_group_steps.proofs.few.Statement.{statement}
 use Rattle.plane_group_steps.proofs.few.Tie as tie
 
 abbrev Inv-loop : tie.InvT-loop
-Inv-loop d₀ s w r outside j₀ d j = (j ≤ r) × Bitted 0 (length d₀) (fewBit s w r outside j) d₀ d
+Inv-loop d₀ s w r outside some j₀ d j = (j ≤ r) × Bitted 0 (length d₀) (fewBit some s w r outside j) d₀ d
 
 abbrev μ-loop : tie.MeasureT-loop
-μ-loop d₀ s w r outside j₀ d j = r - j
+μ-loop d₀ s w r outside some j₀ d j = r - j
 
 cast-fill : tie.Need-cast-fill Inv-loop μ-loop
 cast-fill c = search needs
@@ -29,7 +29,7 @@ fill-requires c κs = search needs
 loop-holds : tie.Need-loop-holds Inv-loop μ-loop
 loop-holds c =
     let a = c .before .before .before .before .before .before .args in
-    (omega arith, few-none (a .s .now) (a .w) (a .r) (a .outside) (c .before .before .fill .ensures))
+    (omega arith, few-none (a .some) (a .s .now) (a .w) (a .r) (a .outside) (c .before .before .fill .ensures))
 
 mul-lay : tie.Need-mul-lay Inv-loop μ-loop
 mul-lay c =
@@ -76,7 +76,7 @@ loop-again c =
     let a = c .before .before .before .before .before .before .before .before .before .before .before .before .before .args in
     let l = c .before .before .before .before .before .before .loop in (
       omega arith,
-      few-more (a .s .now) (a .w) (a .r) (a .outside) (l .j) (omega arith) (omega arith) (omega arith)
+      few-more (a .some) (a .s .now) (a .w) (a .r) (a .outside) (l .j) (omega arith) (omega arith) (omega arith)
           (omega (arith, c .before .before .before .before .before .before .before .before .before .fill .ensures .len)) (l .inv .1)
           (c .before .before .lay .ensures),
     )
@@ -88,7 +88,7 @@ returns : tie.Need-returns Inv-loop μ-loop
 returns c =
     let a = c .before .before .before .before .before .before .before .before .args in
     let e : c .before .loop .j ≡ a .r = omega arith in
-    few-all (a .s .now) (a .w) (a .r) (a .outside) (c .before .before .before .before .fill .ensures) (rw e at (c .before .loop .inv .1))
+    few-all (a .some) (a .s .now) (a .w) (a .r) (a .outside) (c .before .before .before .before .fill .ensures) (rw e at (c .before .loop .inv .1))
 
 pub few-spec : {M : Type 1} → statement M
 few-spec =

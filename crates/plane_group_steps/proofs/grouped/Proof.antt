@@ -18,8 +18,9 @@ returns : tie.Need-returns
 returns c =
     let a = c .before .before .before .before .before .before .before .args in
     let e = c .before .before .before .before .if1 .taken in
-    eight-all (a .s .now) (a .w) (a .r) (a .outside) e
-    (eight-done (a .w) (a .s .now) (a .d .now) (omega arith) (omega arith) (omega (arith, ap (λ (n : ℕ). n * a .w) e)) (c .before .before .eight-rows .ensures))
+    eight-all (a .some) (a .s .now) (a .w) (a .r) (a .outside) e
+    (eight-done (a .some) (a .w) (a .s .now) (a .d .now) (omega arith) (omega arith) (omega (arith, ap (λ (n : ℕ). n * a .w) e))
+    (c .before .before .eight-rows .ensures))
 
 few-requires : tie.Need-few-requires
 few-requires c κs = search needs

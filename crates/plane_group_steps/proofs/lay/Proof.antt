@@ -11,10 +11,10 @@ use Rattle.plane_group_steps.proofs.lay.Statement.{statement}
 use Rattle.plane_group_steps.proofs.lay.Tie as tie
 
 abbrev Inv-loop : tie.InvT-loop
-Inv-loop d₀ s j k₀ d k = (k ≤ length d₀) × Bitted 0 k (λ i q. laidBit (getD d₀ i 0) (getD s i 0) j q) d₀ d
+Inv-loop d₀ s j some k₀ d k = (k ≤ length d₀) × Bitted 0 k (λ i q. laidBit some (getD d₀ i 0) (getD s i 0) j q) d₀ d
 
 abbrev μ-loop : tie.MeasureT-loop
-μ-loop d₀ s j k₀ d k = length d₀ - k
+μ-loop d₀ s j some k₀ d k = length d₀ - k
 
 loop-holds : tie.Need-loop-holds Inv-loop μ-loop
 loop-holds c = (omega arith, bitted-none _ _)
@@ -43,7 +43,7 @@ loop-again c =
     let a = c .before .before .before .before .before .before .before .args in (
       omega arith,
       bitted-more (c .laid .result) (l .inv .1) (omega arith)
-          (λ q u. c .laid .ensures q u ∙ ap (λ (n : ℕ). laidBit n (getD (a .s .now) (l .k) 0) (a .j) q) (l .inv .1 .above (l .k) (omega arith))),
+          (λ q u. c .laid .ensures q u ∙ ap (λ (n : ℕ). laidBit (a .some) n (getD (a .s .now) (l .k) 0) (a .j) q) (l .inv .1 .above (l .k) (omega arith))),
     )
 
 same-length : tie.Need-same-length Inv-loop μ-loop

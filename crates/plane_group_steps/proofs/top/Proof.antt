@@ -37,7 +37,8 @@ returns-3 c =
     let a = e .before .before .before .before .args in
     was-done (topFits (length (a .d .now)) (length (a .s .now)) (a .outside)) (a .d .now)
     (top-fits (length (a .d .now)) (length (a .s .now)) (a .outside) (e .before .if1 .left) (e .if2 .left))
-    (top-bits (a .outside) (a .s .now) (e .if2 .left) (c .before .before .before .before .before .before .fill .ensures) (c .before .before .lay .ensures))
+    (top-bits (a .some) (a .outside) (a .s .now) (e .if2 .left) (c .before .before .before .before .before .before .fill .ensures)
+    (c .before .before .lay .ensures))
 
 pub top-spec : {M : Type 1} → statement M
 top-spec = tie.close (tie.spec returns returns-2 mul-fill fill-requires lay-requires same-length returns-3)

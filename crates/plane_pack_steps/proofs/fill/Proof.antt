@@ -47,8 +47,9 @@ same-length c = search needs
 
 returns : tie.Need-returns
 returns c =
-    let k = c .before .before .before .before .before .before .before .pre in
-    none-packed k (ranged-part {a = 0} zero-le (room-for k) (c .before .before .before .fill .ensures)) (omega arith)
+    let st = c .before .before .before .before .before .before .before in
+    let k = st .pre in
+    none-packed (st .args .some) k (ranged-part {a = 0} zero-le (room-for k) (c .before .before .before .fill .ensures)) (omega arith)
 
 mul-lead : tie.Need-mul-lead
 mul-lead c = search needs
@@ -66,7 +67,7 @@ grouped-requires : tie.Need-grouped-requires
 grouped-requires c κs =
     let st = c .before .before .before .before .before .before .before .before .before .before .before .before .before in
     let r = ranged-part {a = 0} zero-le (room-for (st .pre)) (c .before .before .before .before .before .before .before .before .before .fill .ensures) in
-    let g = begun-far (st .args .far) (c .before .before .before .before .before .if2 .taken) (st .pre) (omega arith) r
+    let g = begun-far (st .args .some) (st .args .far) (c .before .before .before .before .before .if2 .taken) (st .pre) (omega arith) r
     (c .before .before .before .lead .ensures) in
     (g .packs, g .leads, g .shown)
 
@@ -78,14 +79,14 @@ returns-2 c =
     let l = c .before .before .before .before .before .before in
     let st = l .before .before .before .before .before .before .before .before .before .before in
     let r = ranged-part {a = 0} zero-le (room-for (st .pre)) (l .before .before .before .before .before .before .fill .ensures) in
-    let g = begun-far (st .args .far) (l .before .before .if2 .taken) (st .pre) (omega arith) r (l .lead .ensures) in
+    let g = begun-far (st .args .some) (st .args .far) (l .before .before .if2 .taken) (st .pre) (omega arith) r (l .lead .ensures) in
     then-packed g (c .before .before .grouped .ensures)
 
 grouped-requires-2 : tie.Need-grouped-requires-2
 grouped-requires-2 c κs =
     let st = c .before .before .before .before .before .before .before .before .before in
     let r = ranged-part {a = 0} zero-le (room-for (st .pre)) (c .before .before .before .before .before .fill .ensures) in
-    let g = begun-near (st .args .far) (c .before .if2 .left) (st .pre) r in
+    let g = begun-near (st .args .some) (st .args .far) (c .before .if2 .left) (st .pre) r in
     (g .packs, g .leads, g .shown)
 
 same-length-3 : tie.Need-same-length-3
@@ -95,7 +96,7 @@ returns-3 : tie.Need-returns-3
 returns-3 c =
     let st = c .before .before .before .before .before .before .before .before .before .before .before .before in
     let r = ranged-part {a = 0} zero-le (room-for (st .pre)) (c .before .before .before .before .before .before .before .before .fill .ensures) in
-    let g = begun-near (st .args .far) (c .before .before .before .before .if2 .left) (st .pre) r in
+    let g = begun-near (st .args .some) (st .args .far) (c .before .before .before .before .if2 .left) (st .pre) r in
     then-packed g (c .before .before .grouped2 .ensures)
 
 pub fill-spec : {M : Type 1} → statement M

@@ -8,10 +8,10 @@ use Rattle.plane_pack_steps.proofs.grouped.Statement.{statement}
 use Rattle.plane_pack_steps.proofs.grouped.Tie as tie
 
 abbrev Inv-loop : tie.InvT-loop
-Inv-loop f dst₀ w h gw gh far outside s v y₀ p₀ q₀ dst y p q = Filling outside far w h gw gh f dst₀ dst p q y
+Inv-loop f dst₀ w h gw gh far outside some s v y₀ p₀ q₀ dst y p q = Filling some outside far w h gw gh f dst₀ dst p q y
 
 abbrev μ-loop : tie.MeasureT-loop
-μ-loop f dst₀ w h gw gh far outside s v y₀ p₀ q₀ dst y p q = h - y
+μ-loop f dst₀ w h gw gh far outside some s v y₀ p₀ q₀ dst y p q = h - y
 
 add-s : tie.Need-add-s Inv-loop μ-loop
 add-s c = search needs
@@ -63,7 +63,7 @@ loop-holds : tie.Need-loop-holds Inv-loop μ-loop
 loop-holds c =
     let st = c .before .before .before in
     let y = c .leading in
-    filling-first (st .pre .0) (y .result) _ _ (y .ensures) refl refl (st .pre .1) (st .pre .2)
+    filling-first (st .args .some) (st .pre .0) (y .result) _ _ (y .ensures) refl refl (st .pre .1) (st .pre .2)
 
 sub-next : tie.Need-sub-next Inv-loop μ-loop
 sub-next c = search needs
@@ -96,7 +96,8 @@ loop-less c = search needs
 loop-again : tie.Need-loop-again Inv-loop μ-loop
 loop-again c =
     let l = c .before .before .before .before .before .loop in
-    filling-more (c .before .before .before .before .before .before .before .before .before .pre .0) {p = l .p} {q = l .q} {y = l .y} (l .inv)
+    filling-more (c .before .before .before .before .before .before .before .before .before .args .some)
+    (c .before .before .before .before .before .before .before .before .before .pre .0) {p = l .p} {q = l .q} {y = l .y} (l .inv)
     (c .before .before .before .before .loop-test .taken) (c .before .before .next .ensures)
 
 same-length : tie.Need-same-length Inv-loop μ-loop
@@ -105,7 +106,8 @@ same-length c = search needs
 returns : tie.Need-returns Inv-loop μ-loop
 returns c =
     let l = c .before .loop in
-    filling-all (c .before .before .before .before .before .pre .0) {p = l .p} {q = l .q} {y = l .y} (l .inv) (c .loop-test .left)
+    filling-all (c .before .before .before .before .before .args .some) (c .before .before .before .before .before .pre .0) {p = l .p} {q = l .q} {y = l .y}
+    (l .inv) (c .loop-test .left)
 
 pub grouped-spec : {M : Type 1} → statement M
 grouped-spec =

@@ -35,7 +35,7 @@ returns : tie.Need-returns
 returns c =
     let st = c .before .before .before .before .before .before .before in
     let a = st .args in
-    lead-put (a .w) (a .p) (a .outside) (a .f .now) (a .dst .now) (st .pre .0) (st .pre .1) (st .pre .2) (c .before .before .top .ensures)
+    lead-put (a .some) (a .w) (a .p) (a .outside) (a .f .now) (a .dst .now) (st .pre .0) (st .pre .1) (st .pre .2) (c .before .before .top .ensures)
 
 pub lead-spec : {M : Type 1} → statement M
 lead-spec =

@@ -47,7 +47,7 @@ returns : tie.Need-returns
 returns c =
     let a = c .before .before .before .before .before .before .before .before .args in
     let r = c .before .before .before .before .before .rows in
-    group-put (a .w) (a .a) (a .p) (a .q) (a .outside) (a .f .now) (a .dst .now) (r .result) (omega arith) (r .ensures) (omega arith)
+    group-put (a .some) (a .w) (a .a) (a .p) (a .q) (a .outside) (a .f .now) (a .dst .now) (r .result) (omega arith) (r .ensures) (omega arith)
     (omega (arith, ap (λ (i : ℕ). i * a .w) (r .ensures))) (c .before .before .group .ensures)
 
 pub next-spec : {M : Type 1} → statement M

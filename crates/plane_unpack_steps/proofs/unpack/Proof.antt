@@ -13,13 +13,13 @@ unpack-fits-requires c κs = search needs
 returns : tie.Need-returns
 returns c =
     let a = c .before .before .before .before .args in
-    was-kept (unpackFits (a .w) (a .h) (a .gw) (a .gh) (a .a) (a .b) (length (a .src .now)) (length (a .dst .now))) (a .dst .now)
+    was-kept (unpackFits (a .o) (a .w) (a .h) (a .gw) (a .gh) (a .a) (a .b) (length (a .src .now)) (length (a .dst .now))) (a .dst .now)
     (test-fails (c .before .unpack-fits .ensures) (c .if1 .taken))
 
 down-requires : tie.Need-down-requires
 down-requires c κs =
     let a = c .before .before .before .before .before .args in
-    unpack-says (a .w) (a .h) (a .gw) (a .gh) (a .a) (a .b) (length (a .src .now)) (length (a .dst .now))
+    unpack-says (a .o) (a .w) (a .h) (a .gw) (a .gh) (a .a) (a .b) (length (a .src .now)) (length (a .dst .now))
     (test-holds (c .before .before .unpack-fits .ensures) (c .before .if1 .left))
 
 same-length : tie.Need-same-length
@@ -28,7 +28,7 @@ same-length c = search needs
 returns-2 : tie.Need-returns-2
 returns-2 c =
     let a = c .before .before .before .before .before .before .before .before .args in
-    was-done (unpackFits (a .w) (a .h) (a .gw) (a .gh) (a .a) (a .b) (length (a .src .now)) (length (a .dst .now))) (a .dst .now)
+    was-done (unpackFits (a .o) (a .w) (a .h) (a .gw) (a .gh) (a .a) (a .b) (length (a .src .now)) (length (a .dst .now))) (a .dst .now)
     (test-holds (c .before .before .before .before .before .unpack-fits .ensures) (c .before .before .before .before .if1 .left))
     (c .before .before .down .ensures)
 

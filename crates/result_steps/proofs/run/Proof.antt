@@ -4,9 +4,6 @@ use borrow.Author.Needs.{needs}
 use borrow.Author.Tests.{not-true, not-false}
 use mathlib.Core.Path.{refl}
 use Rattle.result_steps.specs.Running.{Runnable}
-use Rattle.turn_steps.proofs.Alternating.{room-past}
-use Rattle.turn_steps.specs.Turns.{Ended}
-use Rattle.result_steps.proofs.Rooms.{room-planes}
 use Rattle.result_steps.proofs.run.Statement.{statement}
 use Rattle.result_steps.proofs.run.Tie as tie
 
@@ -15,12 +12,6 @@ start c = c .before .before .before .before .before .before .before
 
 able : (c : tie.Else1) → let a = start c .args in Runnable (a .plan .now) (a .w) (a .h) (a .first .now) (a .second .now)
 able c = c .before .runnable .ensures .0 (not-false _ (c .if1 .left))
-
--- the stages were run
-ended : (c : tie.After-stages) → let a = start (c .before .before .before) .args in
-    Ended (a .op) (a .plan .now) (a .w) (a .h) (a .first .now) (a .second .now) (c .stages .result) (c .stages .last .1 .1 .1 .1 .0)
-    (c .stages .last .1 .1 .1 .1 .1 .0)
-ended c = let q = able (c .before .before .before) in c .stages .ensures .through (record { words = q .words; room = room-planes (q .room) })
 
 runnable-requires : tie.Need-runnable-requires
 runnable-requires c κs = search needs
@@ -35,7 +26,7 @@ returns : tie.Need-returns
 returns c = record { through = λ q. absurd (c .before .runnable .ensures .1 (not-true _ (c .if1 .taken)) q); unchanged = λ _. (refl, refl, refl) }
 
 stages-requires : tie.Need-stages-requires
-stages-requires c κs = search needs
+stages-requires c κs = let q = able (c .before .before) in (q .words, q .room)
 
 shared-slice-read-cut : tie.Need-shared-slice-read-cut
 shared-slice-read-cut c = let q = able (c .before .before .before .before .before .before .before .before) in omega (arith, q .words .0)
@@ -44,8 +35,16 @@ cut-requires : tie.Need-cut-requires
 cut-requires c κs =
     let s = c .before .before .before .before .before .before .before in
     let q = able (s .before .before .before) in
-    let e = ended s in
-    (q .across, q .down, room-past (q .room) (e .first) (e .second))
+    let e = s .stages .ensures in (
+      q .across,
+      q .down,
+      record {
+        sides = q .room .sides;
+        first = omega (arith, q .room .first, e .first-size);
+        second = omega
+            (arith, q .room .second, e .second-size);
+      },
+    )
 
 same-length-3 : tie.Need-same-length-3
 same-length-3 c = search needs
@@ -58,7 +57,7 @@ returns-2 c =
     let k = c .before .before .before .before in
     let s = k .before .before .before .before .before .before .before .before in
     record {
-      through = λ _. record { first = _; second = _; ended = ended s; away = k .cut .ensures };
+      through = λ _. record { first = _; second = _; ended = s .stages .ensures; away = k .cut .ensures };
       unchanged = λ n. absurd (n (able (s .before .before .before)));
     }
 

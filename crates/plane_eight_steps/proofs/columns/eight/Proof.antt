@@ -19,7 +19,7 @@ add-result c = search needs
 returns : tie.Need-returns
 returns c =
     let a = c .before .before .args in
-    eight-of (a .a) (a .b) (a .c) (a .d) (a .e) (a .f) (a .g) (a .h) (c .before .four .result) (c .four2 .result) (c .before .four .ensures)
+    eight-of (a .some) (a .a) (a .b) (a .c) (a .d) (a .e) (a .f) (a .g) (a .h) (c .before .four .result) (c .four2 .result) (c .before .four .ensures)
     (c .four2 .ensures)
 
 pub eight-spec : {M : Type 1} → statement M

@@ -12,10 +12,10 @@ use Rattle.plane_eight_steps.proofs.columns.eights.Statement.{statement
 use Rattle.plane_eight_steps.proofs.columns.eights.Tie as tie
 
 abbrev Inv-loop : tie.InvT-loop
-Inv-loop d₀ s w k₀ d k = (k ≤ length d₀) × Bitted 0 k (eightBit s w) d₀ d
+Inv-loop d₀ s w some k₀ d k = (k ≤ length d₀) × Bitted 0 k (eightBit some s w) d₀ d
 
 abbrev μ-loop : tie.MeasureT-loop
-μ-loop d₀ s w k₀ d k = length d₀ - k
+μ-loop d₀ s w some k₀ d k = length d₀ - k
 
 loop-holds : tie.Need-loop-holds Inv-loop μ-loop
 loop-holds c = (omega arith, bitted-none _ _)
@@ -100,7 +100,8 @@ loop-again c =
     let l = c .before .before .before .before .before .before .before .before .before .before .loop in
     let a = c .before .before .before .before .before .before .before .before .before .before .before .before .before .args in (
       omega arith,
-      bitted-more (c .eight .result) (l .inv .1) (omega arith) (λ q lq. eight-bits (a .s .now) (a .w) (l .k) (c .eight .result) q lq (c .eight .ensures)),
+      bitted-more (c .eight .result) (l .inv .1) (omega arith)
+          (λ q lq. eight-bits (a .some) (a .s .now) (a .w) (l .k) (c .eight .result) q lq (c .eight .ensures)),
     )
 
 same-length : tie.Need-same-length Inv-loop μ-loop

@@ -72,7 +72,7 @@ returns-2 c =
     let a = st .args in
     let n = length (a .d .now) in
     let g = half-of n (c .before .before .before .before .before .before .before .before .before .if1 .left) in
-    halves-made (a .w) ((n - n / 2 + 15) / 16 * 16) (a .s .now) (a .d .now) (g .0) (g .1) (st .pre)
+    halves-made (a .some) (a .w) ((n - n / 2 + 15) / 16 * 16) (a .s .now) (a .d .now) (g .0) (g .1) (st .pre)
     (c .before .before .before .before .before .before .before .eights2 .ensures) (c .before .before .eights3 .ensures)
 
 pub halves-spec : {M : Type 1} → statement M

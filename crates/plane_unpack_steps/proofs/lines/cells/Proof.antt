@@ -1,5 +1,5 @@
 -- Each byte passed is the bit; the measure is what is left of the run.
-use mathlib.Core.Path.{_≡_, refl}
+use mathlib.Core.Path.{_≡_}
 use Prim.Native.Nat.{_-_, _≤_}
 use lib.ListN.{length, getD}
 use Rattle.rows.specs.Cells.{bit}
@@ -11,22 +11,19 @@ use Rattle.plane_unpack_steps.proofs.lines.cells.Statement.{statement}
 use Rattle.plane_unpack_steps.proofs.lines.cells.Tie as tie
 
 abbrev Inv-loop : tie.InvT-loop
-Inv-loop d₀ s j k₀ d k = (k ≤ length d₀) × Ranged 0 0 k (λ k. bit (getD s k 0) j) d₀ d
+Inv-loop d₀ s j m k₀ d k = (k ≤ length d₀) × Ranged 0 0 k (λ k. bit (getD s k 0) j) d₀ d
 
 abbrev μ-loop : tie.MeasureT-loop
-μ-loop d₀ s j k₀ d k = length d₀ - k
+μ-loop d₀ s j m k₀ d k = length d₀ - k
 
 loop-holds : tie.Need-loop-holds Inv-loop μ-loop
 loop-holds c = (omega arith, ranged-none 0 _ _)
 
-shared-slice-read-d : tie.Need-shared-slice-read-d Inv-loop μ-loop
-shared-slice-read-d c = search needs
+shared-slice-read-held : tie.Need-shared-slice-read-held Inv-loop μ-loop
+shared-slice-read-held c = search needs
 
-cast-d : tie.Need-cast-d Inv-loop μ-loop
-cast-d c = search needs
-
-shr-d : tie.Need-shr-d Inv-loop μ-loop
-shr-d c = search needs
+held-requires : tie.Need-held-requires Inv-loop μ-loop
+held-requires c κs = search needs
 
 slice-write-d : tie.Need-slice-write-d Inv-loop μ-loop
 slice-write-d c = search needs
@@ -38,14 +35,14 @@ loop-less : tie.Need-loop-less Inv-loop μ-loop
 loop-less c = search needs
 
 loop-again : tie.Need-loop-again Inv-loop μ-loop
-loop-again c = (omega arith, ranged-more _ (c .before .before .loop .inv .1) (omega arith) (omega arith) refl)
+loop-again c = (omega arith, ranged-more _ (c .before .before .before .loop .inv .1) (omega arith) (omega arith) (c .held .ensures .0))
 
 same-length : tie.Need-same-length Inv-loop μ-loop
 same-length c = search needs
 
 returns : tie.Need-returns Inv-loop μ-loop
 returns c =
-    let e : c .before .loop .k ≡ length (c .before .before .args .d .now) = omega arith in
+    let e : c .before .loop .k ≡ length (c .before .before .before .before .args .d .now) = omega arith in
     rw e at (c .before .loop .inv .1)
 
 pub cells-spec : {M : Type 1} → statement M
@@ -55,9 +52,8 @@ cells-spec =
     Inv-loop
     μ-loop
     loop-holds
-    shared-slice-read-d
-    cast-d
-    shr-d
+    shared-slice-read-held
+    held-requires
     slice-write-d
     add-k
     loop-less

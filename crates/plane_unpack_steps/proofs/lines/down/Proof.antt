@@ -14,11 +14,11 @@ use Rattle.plane_unpack_steps.proofs.lines.down.Statement.{statement}
 use Rattle.plane_unpack_steps.proofs.lines.down.Tie as tie
 
 abbrev Inv-loop : tie.InvT-loop
-Inv-loop src dst₀ w h gw gh a b outside p₀ y₀ dst p y = (y ≤ h) × (p ≡ y * w)
-    × Laid (λ i j. seen outside gw gh (planeCells gw gh src) (i + a) (j + b)) w y dst₀ dst
+Inv-loop src dst₀ w h gw gh a b outside o p₀ y₀ dst p y = (y ≤ h) × (p ≡ y * w)
+    × Laid (λ i j. seen outside gw gh (planeCells o gw gh src) (i + a) (j + b)) w y dst₀ dst
 
 abbrev μ-loop : tie.MeasureT-loop
-μ-loop src dst₀ w h gw gh a b outside p₀ y₀ dst p y = h - y
+μ-loop src dst₀ w h gw gh a b outside o p₀ y₀ dst p y = h - y
 
 loop-holds : tie.Need-loop-holds Inv-loop μ-loop
 loop-holds c = (omega arith, omega arith, laid-none _)
@@ -73,7 +73,8 @@ returns : tie.Need-returns Inv-loop μ-loop
 returns c =
     let a = c .before .before .before .before .args in
     let e : c .before .loop .y ≡ a .h = omega arith in
-    cut-is (a .outside) (a .w) (a .h) (a .gw) (a .gh) (a .a) (a .b) (planeCells (a .gw) (a .gh) (a .src .now)) (omega arith) (rw e at (c .before .loop .inv .2))
+    cut-is (a .outside) (a .w) (a .h) (a .gw) (a .gh) (a .a) (a .b) (planeCells (a .o) (a .gw) (a .gh) (a .src .now)) (omega arith)
+    (rw e at (c .before .loop .inv .2))
 
 pub down-spec : {M : Type 1} → statement M
 down-spec =

@@ -1,11 +1,11 @@
 -- Where no cell of the row is seen, all are filled; else the three runs lie one after the other.
 use mathlib.Core.Path.{sym}
 use Prim.Native.Nat.{_+_, _-_}
-use lib.ListN.{length, getD}
+use lib.ListN.{length}
 use Rattle.ranges.proofs.Ranges.{ranged-ap}
-use Rattle.rows.specs.Cells.{bit}
 use Rattle.cuts.proofs.CutRows.{between, part-begins, none-seen, three-runs, run-fits}
-use Rattle.plane_unpack_steps.proofs.HeldRows.{part-bits}
+use Rattle.plane_unpack_steps.proofs.HeldRows.{part-rows, part-pairs}
+use Rattle.plane_unpack_steps.specs.Pairs.{pairBit}
 use native.Mathlib.Omega.{arith}
 use borrow.Author.Needs.{needs}
 use Rattle.plane_unpack_steps.proofs.lines.line.Statement.{statement}
@@ -29,10 +29,10 @@ same-length c = search needs
 returns : tie.Need-returns
 returns c =
     let at-if = c .before .before .before .before in
-    let a = at-if .before .before .before .before .before .args in
+    let a = at-if .before .before .before .before .before .before .args in
     ranged-ap (c .before .before .fill .ensures)
     (λ k lo hi. sym
-    (none-seen (a .outside) (length (a .row .now)) (λ i. bit (getD (a .row .now) i 0) (a .j)) (at-if .before .before .edge .ensures)
+    (none-seen (a .outside) (length (a .row .now)) (pairBit (a .row .now) (a .more .now) (a .j)) (at-if .before .before .edge .ensures)
     (at-if .before .edge2 .ensures) k (at-if .if1 .taken) hi))
 
 sub-fill : tie.Need-sub-fill
@@ -56,35 +56,48 @@ part-halves-start c = search needs
 part-halves-end : tie.Need-part-halves-end
 part-halves-end c = search needs
 
-add-halves : tie.Need-add-halves
-add-halves c = search needs
+add-b : tie.Need-add-b
+add-b c = search needs
+
+sub-b : tie.Need-sub-b
+sub-b c = between (c .before .before .before .before .before .before .edge .ensures) (c .before .before .before .before .before .edge2 .ensures)
+    (c .before .before .before .before .if1 .left) .0
 
 sub-halves-2 : tie.Need-sub-halves-2
 sub-halves-2 c =
-    between (c .before .before .before .before .before .before .before .edge .ensures) (c .before .before .before .before .before .before .edge2 .ensures)
-    (c .before .before .before .before .before .if1 .left) .0
-
-sub-halves-3 : tie.Need-sub-halves-3
-sub-halves-3 c =
-    part-begins (c .before .before .before .before .before .before .before .edge .ensures)
-    (c .before .before .before .before .before .before .edge2 .ensures) (c .before .before .before .before .before .if1 .left)
+    part-begins (c .before .before .before .before .before .before .before .edge .ensures) (c .before .before .before .before .before .before .edge2 .ensures)
+    (c .before .before .before .before .before .if1 .left)
 
 part-halves-start-2 : tie.Need-part-halves-start-2
 part-halves-start-2 c =
-    part-begins (c .before .before .before .before .before .before .before .edge .ensures)
-    (c .before .before .before .before .before .before .edge2 .ensures) (c .before .before .before .before .before .if1 .left)
+    part-begins (c .before .before .before .before .before .before .before .edge .ensures) (c .before .before .before .before .before .before .edge2 .ensures)
+    (c .before .before .before .before .before .if1 .left)
 
 part-halves-end-2 : tie.Need-part-halves-end-2
 part-halves-end-2 c = search needs
 
+sub-halves-3 : tie.Need-sub-halves-3
+sub-halves-3 c =
+    part-begins (c .before .before .before .before .before .before .before .before .edge .ensures)
+    (c .before .before .before .before .before .before .before .edge2 .ensures) (c .before .before .before .before .before .before .if1 .left)
+
+part-halves-start-3 : tie.Need-part-halves-start-3
+part-halves-start-3 c =
+    part-begins (c .before .before .before .before .before .before .before .before .edge .ensures)
+    (c .before .before .before .before .before .before .before .edge2 .ensures) (c .before .before .before .before .before .before .if1 .left)
+
+part-halves-end-3 : tie.Need-part-halves-end-3
+part-halves-end-3 c = search needs
+
 halves-requires : tie.Need-halves-requires
 halves-requires c κs =
-    let at-if = c .before .before .before .before .before .before in
-    let st = at-if .before .before .before .before .before in
-    let a = st .args in (
-      run-fits (a .outside) (a .a) (a .row .now) (a .d .now) (at-if .before .before .edge .ensures) (at-if .before .edge2 .ensures) (at-if .if1 .left)
-          (c .before .before .before .before .fill2 .ensures),
-      st .pre .2,
+    let at-if = c .before .before .before .before .before .before .before in
+    let st = at-if .before .before .before .before .before .before in
+    let a = st .args in
+    let p = at-if .before .before .edge in (
+      part-rows (p .result + a .a - 15) (length (a .row .now)) (omega arith) (st .pre .2),
+      run-fits (a .outside) (a .a) (a .row .now) (a .d .now) (p .ensures) (at-if .before .edge2 .ensures) (at-if .if1 .left)
+          (c .before .before .before .before .before .fill2 .ensures),
     )
 
 sub-fill-2 : tie.Need-sub-fill-2
@@ -99,21 +112,22 @@ part-fill-end-2 c = search needs
 fill-requires-3 : tie.Need-fill-requires-3
 fill-requires-3 c κs = search needs
 
-same-length-2 : tie.Need-same-length-2
-same-length-2 c = search needs
-
 returns-2 : tie.Need-returns-2
 returns-2 c =
-    let at-if = c .before .before .before .before .before .before .before .before .before .before .before .before .before in
-    let a = at-if .before .before .before .before .before .args in
+    let at-if = c .before .before .before .before .before .before .before .before .before .before .before .before .before .before in
+    let st = at-if .before .before .before .before .before .before in
+    let a = st .args in
     let p = at-if .before .before .edge in
     let e = at-if .before .edge2 in
     let row = a .row .now in
-    three-runs (a .outside) (length row) (a .a) (λ i. bit (getD row i 0) (a .j)) (a .d .now) (p .ensures) (e .ensures) (at-if .if1 .left)
-    (c .before .before .before .before .before .before .before .before .before .before .before .fill2 .ensures)
-    (λ h g u. part-bits (a .j) (p .result + a .a - 15) row {a = p .result} {e = e .result} h g u
+    three-runs (a .outside) (length row) (a .a) (pairBit row (a .more .now) (a .j)) (a .d .now) (p .ensures) (e .ensures) (at-if .if1 .left)
+    (c .before .before .before .before .before .before .before .before .before .before .before .before .fill2 .ensures)
+    (λ h g u. part-pairs (a .j) (p .result + a .a - 15) row (a .more .now) {a = p .result} {e = e .result} (st .pre .2 .size) h g u
     (c .before .before .before .before .before .before .halves .ensures))
     (c .before .before .fill3 .ensures)
+
+same-length-2 : tie.Need-same-length-2
+same-length-2 c = returns-2 c .len
 
 pub line-spec : {M : Type 1} → statement M
 line-spec =
@@ -129,14 +143,17 @@ line-spec =
     part-fill-start
     part-fill-end
     fill-requires-2
+    add-b
+    sub-b
     sub-halves
     part-halves-start
     part-halves-end
-    add-halves
     sub-halves-2
-    sub-halves-3
     part-halves-start-2
     part-halves-end-2
+    sub-halves-3
+    part-halves-start-3
+    part-halves-end-3
     halves-requires
     sub-fill-2
     part-fill-start-2

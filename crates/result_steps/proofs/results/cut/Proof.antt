@@ -16,6 +16,9 @@ ahead-requires-2 c κs = search needs
 beyond-requires : tie.Need-beyond-requires
 beyond-requires c κs = search needs
 
+second-at-requires : tie.Need-second-at-requires
+second-at-requires c κs = search needs
+
 add-unpack : tie.Need-add-unpack
 add-unpack c = search needs
 
@@ -33,16 +36,20 @@ same-length-2 c = search needs
 
 returns : tie.Need-returns
 returns c =
-    let st = c .before .before .before .before .before .before .before .before .before .before .before in
+    let at-if = c .before .before .before .before .before in
+    let st = at-if .before .before .before .before .before .before .before in
     let p = st .args .place in
-    let a = c .before .before .before .before .before .before .before .before .ahead in
-    let b = c .before .before .before .before .before .before .before .ahead2 in
-    let v = c .before .before .before .before .before .before .beyond in
+    let a = at-if .before .before .before .before .ahead in
+    let b = at-if .before .before .before .ahead2 in
+    let v = at-if .before .before .beyond in
+    let o = at-if .before .second-at in
     let x = a .ensures in
     let y = b .ensures in
-    let fits = room-cut (st .pre .2) (st .args .first .now) (st .args .second .now) (st .pre .2 .first) (st .pre .2 .second) (a .result) (b .result)
-    (omega (arith, x, ahead-small (st .args .op) (placeX p) (st .pre .0))) (omega (arith, y, ahead-small (st .args .op) (placeY p) (st .pre .1))) in
-    away-first p x y (v .ensures) (c .before .before .before .before .before .if1 .taken) (c .before .before .unpack .ensures .done fits)
+    let fits = room-cut (st .pre .2) (st .args .first .now) (st .args .second .now) (st .pre .2 .first) (st .pre .2 .second) (st .args .two) (a .result)
+    (b .result)
+    (o .ensures) (omega (arith, x, ahead-small (st .args .op) (placeX p) (st .pre .0)))
+    (omega (arith, y, ahead-small (st .args .op) (placeY p) (st .pre .1))) in
+    away-first p x y (v .ensures) (o .ensures) (at-if .if1 .taken) (c .before .before .unpack .ensures .done fits)
 
 add-unpack-3 : tie.Need-add-unpack-3
 add-unpack-3 c = search needs
@@ -61,16 +68,20 @@ same-length-4 c = search needs
 
 returns-2 : tie.Need-returns-2
 returns-2 c =
-    let st = c .before .before .before .before .before .before .before .before .before .before .before in
+    let at-if = c .before .before .before .before .before in
+    let st = at-if .before .before .before .before .before .before .before in
     let p = st .args .place in
-    let a = c .before .before .before .before .before .before .before .before .ahead in
-    let b = c .before .before .before .before .before .before .before .ahead2 in
-    let v = c .before .before .before .before .before .before .beyond in
+    let a = at-if .before .before .before .before .ahead in
+    let b = at-if .before .before .before .ahead2 in
+    let v = at-if .before .before .beyond in
+    let o = at-if .before .second-at in
     let x = a .ensures in
     let y = b .ensures in
-    let fits = room-cut (st .pre .2) (st .args .second .now) (st .args .first .now) (st .pre .2 .second) (st .pre .2 .first) (a .result) (b .result)
-    (omega (arith, x, ahead-small (st .args .op) (placeX p) (st .pre .0))) (omega (arith, y, ahead-small (st .args .op) (placeY p) (st .pre .1))) in
-    away-second p x y (v .ensures) (c .before .before .before .before .before .if1 .left) (c .before .before .unpack2 .ensures .done fits)
+    let fits = room-cut (st .pre .2) (st .args .second .now) (st .args .first .now) (st .pre .2 .second) (st .pre .2 .first) (st .args .two) (a .result)
+    (b .result)
+    (o .ensures) (omega (arith, x, ahead-small (st .args .op) (placeX p) (st .pre .0)))
+    (omega (arith, y, ahead-small (st .args .op) (placeY p) (st .pre .1))) in
+    away-second p x y (v .ensures) (o .ensures) (at-if .if1 .left) (c .before .before .unpack2 .ensures .done fits)
 
 pub cut-spec : {M : Type 1} → statement M
 cut-spec =
@@ -79,6 +90,7 @@ cut-spec =
     ahead-requires
     ahead-requires-2
     beyond-requires
+    second-at-requires
     add-unpack
     add-unpack-2
     unpack-requires

@@ -55,7 +55,8 @@ loop-less c = search needs
 loop-again : tie.Need-loop-again Inv-loop μ-loop
 loop-again c =
     let l = c .before .before .before .before .before .before .before .before .before .loop in
-    (omega arith, omega arith, midway-more (l .inv .2) (c .before .before .before .before .turn .ensures) (omega arith))
+    let st = c .before .before .before .before .before .before .before .before .before .before .before .before .before in
+    (omega arith, omega arith, midway-more (l .inv .2) (c .before .before .before .before .turn .ensures) (omega arith) (st .pre .3))
 
 same-length : tie.Need-same-length Inv-loop μ-loop
 same-length c = c .before .loop .inv .2 .first .size
