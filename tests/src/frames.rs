@@ -3,10 +3,12 @@
 
 use std::fmt;
 
+pub mod cells;
 pub mod check;
 pub mod grounds;
 pub mod library;
 pub mod makers;
+pub mod measured;
 pub mod reference;
 pub mod refused;
 

@@ -5,12 +5,14 @@ use crate::cases::hex;
 use crate::frames::Around;
 use std::fmt;
 
+pub mod by_rule;
 pub mod check;
 pub mod grounds;
 pub mod in_turn;
 pub mod library;
 pub mod makers;
 pub mod plane;
+pub mod quick;
 pub mod reference;
 pub mod refused;
 pub mod tally;

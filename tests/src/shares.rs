@@ -29,6 +29,17 @@ impl Case {
             before,
         }
     }
+
+    /// Makes every measured cell 2.
+    pub fn unmeasure(&mut self) {
+        let measured = self.frame.iter_mut().filter(|cell| **cell < 2);
+        measured.for_each(|cell| *cell = 2);
+    }
+
+    /// The number of measured cells.
+    pub fn measured(&self) -> i64 {
+        self.frame.iter().filter(|&&cell| cell < 2).count() as i64
+    }
 }
 
 impl fmt::Display for Case {

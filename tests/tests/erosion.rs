@@ -2,10 +2,10 @@
 //! operations and within them. Results are written out, or what the plan's points give
 //! directly and what the single stages give in turn.
 
-use musqerpi_tests::frames::reference::{lay, minus, occupied, of_frame, plus};
+use musqerpi_tests::frames::measured::{lay, minus, occupied, of_frame, plus};
 use musqerpi_tests::frames::{grid_of, Around};
 use musqerpi_tests::operations::check::Checker;
-use musqerpi_tests::operations::in_turn::{cells, cells_by_points};
+use musqerpi_tests::operations::in_turn::{cells, cells_by_reference};
 use musqerpi_tests::operations::makers::Maker;
 use musqerpi_tests::operations::reference::directly;
 use musqerpi_tests::operations::{plan_list, Case, Op, OPS};
@@ -55,15 +55,15 @@ fn plans() -> Vec<Vec<u32>> {
     ]
 }
 
-/// Against the frame joined to everything outside it as far as the plan's points reach,
-/// and against all points but the frame's free ones moved back by each point of the plan.
+/// Measured frames: against the frame joined to everything outside it as far as the plan's
+/// points reach, and against all points but the free ones moved back by each of the plan's.
 #[test]
 fn direct_erosion_against_sets_of_points() {
     let mut maker = Maker::new(901);
     for _ in 0..400 {
         let (plan, size) = (maker.plan(), maker.frames.size());
         let size = (size.0.min(20), size.1.min(20));
-        let (a, frame) = (of_plan(&plan), maker.picture(size));
+        let (a, frame) = (of_plan(&plan), maker.measured(size));
         let found = directly(Op::Erode, size, &frame, &a);
         let joined = of_frame(size, &frame, Around::Occupied, 15);
         let mut wanted = vec![9; size.0 * size.1];
@@ -77,9 +77,9 @@ fn direct_erosion_against_sets_of_points() {
     }
 }
 
-/// The single stages in turn by sets of points give what the plan's points give directly.
+/// The single stages in turn by the reference's grids give what the plan's points give directly.
 #[test]
-fn grids_of_points_in_turn() {
+fn grids_of_the_reference_in_turn() {
     let mut maker = Maker::new(902);
     let extremes: Vec<Vec<u32>> = plans().iter().flat_map(|m| at_extremes(m)).collect();
     for round in 0..300 {
@@ -91,7 +91,7 @@ fn grids_of_points_in_turn() {
         for op in OPS {
             let case = maker.case(op, &plan, size);
             let direct = directly(op, size, &case.frame, &of_plan(&plan));
-            assert_eq!(cells_by_points(&case), direct, "{case}");
+            assert_eq!(cells_by_reference(&case), direct, "{case}");
         }
     }
 }

@@ -137,26 +137,26 @@ fn with_cell(case: &Case, place: usize, value: u8) -> Case {
 }
 
 #[test]
-fn cells_above_1_at_each_place() {
+fn cells_above_2_at_each_place() {
     let mut checker = Checker::new(404);
     for (w, h) in [(1, 1), (2, 3), (4, 4), (9, 1), (240, 240)] {
         let grid = grid_of(w, h);
         for case in frame_calls((w, h), &vec![0; w * h], grid) {
             let last = w * h - 1;
             for place in (0..last.min(20)).chain([last / 2, last]) {
-                for value in [2, 3, 128, 254, 255] {
+                for value in [3, 4, 128, 254, 255] {
                     checker.answers(&with_cell(&case, place, value), -13);
                 }
             }
         }
         for case in single_stages(3, (w, h), &vec![0; grid + 3], grid) {
             for place in [0, 1, w - 1, w, w + 14, w + 15, grid / 2, grid - 2, grid - 1] {
-                for value in [2, 3, 128, 254, 255] {
+                for value in [3, 4, 128, 254, 255] {
                     checker.answers(&with_cell(&case, place, value), -13);
                 }
             }
             for past in 0..3 {
-                checker.answers(&with_cell(&case, grid + past, 2), 0);
+                checker.answers(&with_cell(&case, grid + past, 3), 0);
                 checker.answers(&with_cell(&case, grid + past, 255), 0);
             }
         }
@@ -166,14 +166,15 @@ fn cells_above_1_at_each_place() {
 
 /// An image that is too short is looked at for cells as far as it goes.
 #[test]
-fn cells_above_1_in_a_short_image() {
+fn cells_above_2_in_a_short_image() {
     let mut checker = Checker::new(405);
     let grid = grid_of(3, 2);
     for from_n in [1, 2, 100, grid - 1] {
         for to_n in [0, grid - 1, grid] {
             for case in single_stages(3, (3, 2), &vec![0; from_n], to_n) {
                 checker.answers(&case, -14);
-                checker.answers(&with_cell(&case, 0, 2), -13);
+                checker.answers(&with_cell(&case, 0, 2), -14);
+                checker.answers(&with_cell(&case, 0, 3), -13);
                 checker.answers(&with_cell(&case, from_n - 1, 255), -13);
             }
         }

@@ -1,10 +1,10 @@
-//! (s) Both kinds of grid, with results written out or by sets of points: where putting
+//! (s) Both kinds of grid, with results written out or by cells of the plane: where putting
 //! lays the frame, what a single stage reads outside, and the stages of a plan in turn.
 
+use musqerpi_tests::frames::cells::Cells;
 use musqerpi_tests::frames::makers::{stages, Maker};
-use musqerpi_tests::frames::reference::{minus, occupied, plus, Points};
 use musqerpi_tests::frames::{grid_of, library, stage_word, Around, Mode, AROUND, MODES};
-use musqerpi_tests::reference::points::{bounds, of_mask, of_plan, Point};
+use musqerpi_tests::reference::points::{bounds, of_mask, of_plan};
 
 /// 0, and some of the bytes that all say the same as 1.
 const BYTES: [u8; 5] = [0, 1, 2, 128, 255];
@@ -38,32 +38,13 @@ fn staged(mask: u32, mode: Mode, from: &[u8]) -> Vec<u8> {
     to
 }
 
-/// The points of the cells that are unlike those outside; the first cell has this x and y.
-fn unlike_outside(cells: &[u8], width: usize, around: Around, start: i64) -> Points {
-    let unlike: Vec<u8> = cells.iter().map(|cell| cell ^ around.cell()).collect();
-    let points = occupied(&unlike, width);
-    points.iter().map(|p| (p.0 + start, p.1 + start)).collect()
-}
-
-/// What the stages make at once of the cells unlike those outside. In the second kind of
-/// grid those are the free ones: erosion leaves p free if p + q is for some q of the sum,
-/// dilation if p - q is for every q.
-fn at_once(x: &Points, sum: &[Point], mode: Mode) -> Points {
-    let back: Vec<Point> = sum.iter().map(|q| (-q.0, -q.1)).collect();
-    match (mode.around, mode.erode) {
-        (Around::Free, false) => plus(x, sum),
-        (Around::Free, true) => minus(x, sum),
-        (Around::Occupied, false) => minus(x, &back),
-        (Around::Occupied, true) => plus(x, &back),
-    }
-}
-
-/// The plan's stages in turn are its sum at once, and the grid loses nothing of it.
+/// The plan's stages in turn are its sum at once, and the grid loses nothing of it: past
+/// the grid all cells are as those outside.
 #[test]
 fn stages_in_turn_are_their_sum() {
     let mut maker = Maker::new(312);
     let mut plans = musqerpi_tests::lists::Maker::new(313);
-    let (mut tried, mut longest, mut some) = (0, 0, [0; 4]);
+    let (mut tried, mut longest, mut some) = (0, 0, [[0; 3]; 4]);
     while tried < 300 {
         let mut plan = plans.plan();
         plan[1] = 0x4000_0f0f;
@@ -77,17 +58,27 @@ fn stages_in_turn_are_their_sum() {
         let size = (1 + maker.random.below(30), 1 + maker.random.below(30));
         let frame = maker.cells(size.0 * size.1);
         for (i, mode) in MODES.into_iter().enumerate() {
+            let (start, outside) = (mode.around.start(), mode.around.cell());
             let last = in_turn(size, &frame, &masks, mode);
-            let x = unlike_outside(&frame, size.0, mode.around, 0);
-            let start = mode.around.start();
-            let found = unlike_outside(&last, size.0 + 15, mode.around, start);
-            let wanted = at_once(&x, &sum, mode);
+            let found = Cells::new(&last, size.0 + 15, start, outside);
+            let x = Cells::new(&frame, size.0, 0, outside);
+            let wanted = match mode.erode {
+                true => x.eroded(&sum),
+                false => x.dilated(&sum),
+            };
+            let about = (size.0 + 40, size.1 + 40);
+            let (found, wanted) = (found.cut(-20, about), wanted.cut(-20, about));
             assert_eq!(found, wanted, "{mode:?} by {plan:x?} on {size:?} {frame:?}");
-            some[i] += u32::from(!wanted.is_empty());
+            let unlike = [1 - outside, 2, outside].map(|cell| wanted.contains(&cell));
+            (0..3).for_each(|kind| some[i][kind] += u32::from(unlike[kind]));
         }
     }
     assert!(longest >= 20, "the longest plan has {longest} stages");
-    assert!(some.iter().all(|&count| count >= 20), "not empty {some:?}");
+    let enough = some.as_flattened().iter().all(|&count| count >= 20);
+    assert!(
+        enough,
+        "unlike those outside, not measured, like them {some:?}"
+    );
 }
 
 /// Row 0 of a grid of one row of cells and 15 other rows: these, and the rest as it is
@@ -263,7 +254,7 @@ fn refusals_by_every_byte_of_around() {
         let mut image = vec![7; 18 * 16];
         let put =
             |frame: &[u8], image: &mut [u8]| library::put_by_byte((3, 1), frame, around, image);
-        assert_eq!(put(&[1, 2, 0], &mut image), -13, "around {around}");
+        assert_eq!(put(&[1, 3, 0], &mut image), -13, "around {around}");
         assert_eq!(put(&[1, 0], &mut image), -12, "around {around}");
         assert_eq!(put(&[1, 0, 1], &mut image[1..]), -14, "around {around}");
         for erode in BYTES {
@@ -271,7 +262,7 @@ fn refusals_by_every_byte_of_around() {
                 library::stage_by_bytes(word, (erode, around), (3, 1), from, &mut image)
             };
             assert_eq!(stage(0x5000_0003, &[1; 287]), -14, "around {around}");
-            assert_eq!(stage(0x5000_0003, &[2; 288]), -13, "around {around}");
+            assert_eq!(stage(0x5000_0003, &[3; 288]), -13, "around {around}");
             assert_eq!(stage(0x5000_0001, &[1; 288]), -7, "around {around}");
         }
         assert_eq!(image, [7; 288], "around {around}");

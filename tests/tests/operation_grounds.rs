@@ -78,16 +78,16 @@ fn lengths_of_frame_and_images() {
     checker.tally.assert_answers(&[0, 12, 14], 20);
 }
 
-/// Cells 2 and 255, and others above 1, at each place of small frames and at many of
+/// Cells 3 and 255, and others above 2, at each place of small frames and at many of
 /// large ones, by short images too.
 #[test]
-fn cells_above_1() {
+fn cells_above_2() {
     let mut checker = Checker::new(710);
     for (w, h) in [(1, 1), (2, 3), (4, 4), (9, 1), (1, 30), (240, 240)] {
         let (last, grid) = (w * h - 1, grid_of(w, h));
         for op in OPS {
             for place in (0..last.min(20)).chain([last / 2, last]) {
-                for value in [2, 255] {
+                for value in [3, 255] {
                     for images in [(grid, grid), (grid - 1, grid), (grid, grid - 1)] {
                         let mut case = free(op, (w, h), w * h, images);
                         case.frame[place] = value;
@@ -95,7 +95,7 @@ fn cells_above_1() {
                     }
                 }
             }
-            for value in [3, 4, 16, 127, 128, 254] {
+            for value in [4, 5, 16, 127, 128, 254] {
                 let mut case = free(op, (w, h), w * h, (grid, grid));
                 case.frame[last] = value;
                 checker.answers(&case, 13);
@@ -126,10 +126,10 @@ fn damaged_at_random() {
             true => (n + maker.random.below(4)).saturating_sub(2),
             false => n,
         };
-        let mut frame = vec![1; off(&mut maker, w * h)];
+        let mut frame = vec![maker.random.pick(&[1, 2]); off(&mut maker, w * h)];
         if !frame.is_empty() && maker.random.once_in(4) {
             let place = maker.random.below(frame.len());
-            frame[place] = maker.random.pick(&[2, 255]);
+            frame[place] = maker.random.pick(&[3, 255]);
         }
         let grid = grid_of(w, h);
         let images = (off(&mut maker, grid), off(&mut maker, grid));

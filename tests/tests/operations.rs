@@ -2,7 +2,7 @@
 //! compared with what the plan's points give directly. Both images are dirty.
 
 use musqerpi_tests::cases::hex;
-use musqerpi_tests::frames::reference::{lay, minus, occupied, plus};
+use musqerpi_tests::frames::measured::{lay, minus, occupied, plus};
 use musqerpi_tests::lists::planning::{Kind, KINDS};
 use musqerpi_tests::lists::{list_of_rows, Maker as Lists};
 use musqerpi_tests::operations::check::Checker;
@@ -11,7 +11,7 @@ use musqerpi_tests::operations::makers::{planned as planned_list, Maker};
 use musqerpi_tests::operations::plane::Plane;
 use musqerpi_tests::operations::reference::{directly, on_the_plane};
 use musqerpi_tests::operations::{plan_list, Case, Op, OPS};
-use musqerpi_tests::reference::points::{bounds, of_plan, of_shape};
+use musqerpi_tests::reference::points::{bounds, of_plan, of_shape, Point};
 
 /// Every size with W and H from 1 to 5.
 fn small_sizes() -> Vec<(usize, usize)> {
@@ -24,27 +24,27 @@ fn extremes(extent: i64) -> [i64; 3] {
     [-15, 0.min(15 - extent), 15 - extent]
 }
 
-/// The reference's window of bits against sets of points, on the whole plane about the
-/// frame, where every cell outside it is free: nothing is lost at its edges.
+/// The reference's window against sets of points, on the whole plane about measured frames,
+/// where every cell outside is free: nothing is lost at its edges.
 #[test]
 fn the_window_against_sets_of_points() {
     let mut maker = Maker::new(501);
     for _ in 0..600 {
         let (plan, size) = (maker.plan(), maker.frames.size());
         let size = (size.0.min(20), size.1.min(20));
-        let (a, frame) = (of_plan(&plan), maker.picture(size));
+        let (a, frame) = (of_plan(&plan), maker.measured(size));
         let x = occupied(&frame, size.0);
         for op in OPS {
-            let made = on_the_plane(op, &Plane::of_frame(size, &frame), &a);
+            let made = on_the_plane(op, &Plane::of_frame(size, &frame, 0), &a);
             let wanted = match op {
                 Op::Dilate => plus(&x, &a),
                 Op::Erode => minus(&x, &a),
                 Op::Open => plus(&minus(&x, &a), &a),
                 Op::Close => minus(&plus(&x, &a), &a),
             };
-            let mut window = Plane::empty(size);
-            wanted.iter().for_each(|&point| window.insert(point));
-            assert_eq!(made, window, "{op:?} by {plan:x?} on {size:?} {frame:?}");
+            let same = |&p: &Point| made.at(p) == u8::from(wanted.contains(&p));
+            let same = Plane::points(size).iter().all(same);
+            assert!(same, "{op:?} by {plan:x?} on {size:?} {frame:?}");
             let mut cells = vec![9; size.0 * size.1];
             lay(&wanted, size.0, &mut cells);
             assert_eq!(made.cells(size), cells, "{op:?}, the cells");
@@ -86,6 +86,7 @@ fn many_frames_up_to_five_by_five() {
     }
     checker.tally.assert_answers(&[0], 25_000);
     checker.tally.assert_results(300);
+    checker.tally.assert_unmeasured(300);
 }
 
 /// Plans that no planner wrote, of 0 to 30 stages, on random sizes.
@@ -105,6 +106,7 @@ fn plan_lists_on_random_sizes() {
     }
     checker.tally.assert_answers(&[0], 6_000);
     checker.tally.assert_results(400);
+    checker.tally.assert_unmeasured(400);
     checker.tally.assert_stages(12, 20);
 }
 
@@ -115,11 +117,13 @@ fn thirty_stages() {
     let masks = [[3; 15], [9; 15]].concat();
     for size in [(1, 1), (16, 16), (17, 31), (60, 50)] {
         for (dx, dy) in [(-15, -15), (0, 0), (-15, 0), (-7, -8)] {
+            let plan = plan_list((dx, dy), &masks);
             for op in OPS {
-                let mut case = maker.case(op, &plan_list((dx, dy), &masks), size);
+                let mut case = maker.case(op, &plan, size);
                 checker.answers(&case, 0);
                 case.frame.fill(1);
                 checker.answers(&case, 0);
+                checker.answers(&maker.case(op, &plan, size), 0);
             }
         }
     }
@@ -257,6 +261,7 @@ fn single_stages_in_turn() {
     }
     checker.tally.assert_answers(&[0], 2_500);
     checker.tally.assert_results(300);
+    checker.tally.assert_unmeasured(300);
 }
 
 /// Images that end with the grid, and images longer by each of some numbers of bytes.

@@ -28,12 +28,13 @@ const SIDES: [usize; 16] = [
 const STAGES: [i64; 12] = [0, 1, 2, 3, 29, 30, 59, 60, 255, 256, i64::MAX - 1, i64::MAX];
 
 /// Refusals, and numbers below 0 that no call answers.
-const NEGATIVE: [i64; 9] = [
+const NEGATIVE: [i64; 10] = [
     -1,
     -2,
     -13,
     -14,
     -15,
+    -16,
     -256,
     i32::MIN as i64,
     i64::MIN + 1,

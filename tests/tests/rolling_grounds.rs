@@ -61,7 +61,7 @@ fn damaged_at_random() {
             match maker.random.below(12) {
                 0 => part.truncate(n - 1),
                 1 => part.push(0),
-                2 => part[place] = maker.random.pick(&[2, 255]),
+                2 => part[place] = maker.random.pick(&[3, 255]),
                 _ => {}
             }
         }
@@ -147,22 +147,22 @@ fn parts_of_no_cells() {
     }
 }
 
-/// Cells above 1 at each place of small frames and at many of large ones: in the row, in
+/// Cells above 2 at each place of small frames and at many of large ones: in the row, in
 /// the rows that leave and in those of the kept frame that are worked out anew as well.
 #[test]
-fn cells_above_1() {
+fn cells_above_2() {
     let mut checker = Checker::new(908);
     for (w, h) in [(1, 1), (2, 3), (4, 5), (9, 1), (1, 30), (240, 240)] {
         let good = free((w, h), w, w * h, w * h);
         let places = |n: usize| (0..n.min(30)).chain([n / 2, n - 1]);
-        for value in [2, 3, 16, 128, 254, 255] {
+        for value in [3, 4, 16, 128, 254, 255] {
             for place in places(w * h) {
                 let mut case = good.clone();
                 case.live[place] = value;
                 checker.answers(&case, 13);
                 case.kept[place] = value;
                 checker.answers(&case, 13);
-                case.live[place] = 1;
+                case.live[place] = 2;
                 checker.answers(&case, 13);
             }
             for place in places(w) {

@@ -8,10 +8,10 @@ use musqerpi_tests::shares::makers::Maker;
 use musqerpi_tests::shares::reference::Share;
 use musqerpi_tests::shares::Case;
 
-/// The words of the request, with the plain count that the load gives: quotient × W × H +
-/// remainder = 10,000 × occupied cells, and the remainder is below W × H.
+/// The words of the requests, with the plain count that the load gives: quotient × measured
+/// cells + remainder = 10,000 × occupied cells, and the remainder is below the measured.
 fn assert_closes(case: &Case, share: Share, occupied: i64) {
-    let (cells, remainder) = ((case.w * case.h) as i64, i64::from(share.remainder));
+    let (cells, remainder) = (case.measured(), i64::from(share.remainder));
     let count = load(case.w, case.h, &case.frame);
     assert_eq!(count, occupied, "{case}: the plain count");
     let sum = share.quotient * cells + remainder;
@@ -156,10 +156,17 @@ fn random_frames() {
     checker.tally.assert_shares(10);
 }
 
-/// Quotient × W × H + remainder of a frame, which is what adds up.
+/// Quotient × measured cells + remainder of a frame, which is what adds up; nothing if no
+/// cell is measured.
 fn worth(checker: &mut Checker, size: (usize, usize), frame: &[u8]) -> i64 {
-    let share = checker.share(&Case::new(size, frame, u32::MAX));
-    share.quotient * (size.0 * size.1) as i64 + i64::from(share.remainder)
+    let case = Case::new(size, frame, u32::MAX);
+    match checker.check(&case) {
+        Ok(share) => share.quotient * case.measured() + i64::from(share.remainder),
+        Err(ground) => {
+            assert_eq!((ground, case.measured()), (16, 0), "{case}");
+            0
+        }
+    }
 }
 
 /// A frame's rows, its columns, or bands of its rows, each a frame of its own: what they

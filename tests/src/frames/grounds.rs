@@ -70,7 +70,7 @@ fn wrong_length(case: &Case) -> bool {
 }
 
 fn bad_frame_cell(case: &Case) -> bool {
-    case.read.iter().any(|&cell| cell > 1)
+    case.read.iter().any(|&cell| cell > 2)
 }
 
 /// Bytes of the grid, or the greatest number if they are more.
@@ -82,7 +82,7 @@ fn grid(case: &Case) -> u128 {
 fn bad_grid_cell(case: &Case) -> bool {
     let in_grid = |place: usize| (place as u128) < grid(case);
     let mut cells = case.read.iter().enumerate();
-    cells.any(|(place, &cell)| in_grid(place) && cell > 1)
+    cells.any(|(place, &cell)| in_grid(place) && cell > 2)
 }
 
 fn short_written(case: &Case) -> bool {

@@ -9,6 +9,19 @@ pub fn stages() -> Vec<u32> {
     (0..512).filter(|&mask| is_stage(mask)).collect()
 }
 
+/// Every size of so many cells.
+pub fn sizes_of(cells: usize) -> Vec<(usize, usize)> {
+    let widths = (1..=cells).filter(|w| w * (cells / w) == cells);
+    widths.map(|w| (w, cells / w)).collect()
+}
+
+/// Every frame of so many cells over the three values.
+pub fn every_frame(cells: usize) -> impl Iterator<Item = Vec<u8>> {
+    let digit = |number: usize, i: usize| (number / 3usize.pow(i as u32) % 3) as u8;
+    let frame = move |number: usize| (0..cells).map(|i| digit(number, i)).collect();
+    (0..3usize.pow(cells as u32)).map(frame)
+}
+
 pub struct Maker {
     pub random: Random,
     stages: Vec<u32>,
@@ -21,7 +34,7 @@ impl Maker {
     }
 
     /// Cells of 0 and 1: none occupied, all, all but one, one, or some in eight.
-    pub fn cells(&mut self, n: usize) -> Vec<u8> {
+    pub fn measured(&mut self, n: usize) -> Vec<u8> {
         let thickness = self.random.below(11);
         let mut cells = match thickness {
             0 | 1 => vec![0; n],
@@ -34,6 +47,25 @@ impl Maker {
             cells[self.random.below(n)] ^= 1;
         }
         cells
+    }
+
+    /// Such cells, some of them then not measured.
+    pub fn cells(&mut self, n: usize) -> Vec<u8> {
+        let mut cells = self.measured(n);
+        self.unmeasure(&mut cells);
+        cells
+    }
+
+    /// No cell is made 2, or one is, or about half of them are.
+    pub fn unmeasure(&mut self, cells: &mut [u8]) {
+        match self.random.below(3) {
+            0 => {}
+            1 => cells[self.random.below(cells.len())] = 2,
+            _ => {
+                let holes = cells.iter_mut().filter(|_| self.random.once_in(2));
+                holes.for_each(|cell| *cell = 2);
+            }
+        }
     }
 
     /// Any bytes, as they stand past a grid.

@@ -21,7 +21,7 @@ impl Maker {
         let size = match (holds(11), kind != Kind::Stage && holds(13)) {
             (false, _) => self.random.pick(&GOOD_SIZES),
             (true, false) => self.random.pick(&BAD_SIZES),
-            // A frame has a cell that is above 1.
+            // A frame has a cell that is above 2.
             (true, true) => self.random.pick(&BAD_SIZES[..3]),
         };
         let (read_n, write_n) = match kind {
@@ -33,7 +33,7 @@ impl Maker {
         };
         let mut read = vec![1; read_n];
         if holds(13) {
-            read[self.random.below(read_n)] = 2 + self.random.below(254) as u8;
+            read[self.random.below(read_n)] = 3 + self.random.below(253) as u8;
         }
         match kind {
             Kind::Load => Case::load(size.0, size.1, &read),

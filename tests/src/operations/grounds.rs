@@ -54,7 +54,7 @@ fn wrong_length(case: &Case) -> bool {
 }
 
 fn bad_cell(case: &Case) -> bool {
-    case.frame.iter().any(|&cell| cell > 1)
+    case.frame.iter().any(|&cell| cell > 2)
 }
 
 /// Ground 14 over both images; the grid's bytes, or the greatest number if they are more.

@@ -14,8 +14,8 @@ pub fn cells(case: &Case) -> Vec<u8> {
     cut(case, &last_grid(case, run))
 }
 
-/// `cells` by the sets of points of the reference's grids.
-pub fn cells_by_points(case: &Case) -> Vec<u8> {
+/// `cells` by the reference's grids.
+pub fn cells_by_reference(case: &Case) -> Vec<u8> {
     cut(case, &last_grid(case, reference::run))
 }
 

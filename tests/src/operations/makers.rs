@@ -82,11 +82,18 @@ impl Maker {
         Some((shape, plan))
     }
 
+    /// A picture of which some cells are not measured.
+    pub fn picture(&mut self, size: (usize, usize)) -> Vec<u8> {
+        let mut cells = self.measured(size);
+        self.frames.unmeasure(&mut cells);
+        cells
+    }
+
     /// Cells at random, or rectangles of either kind with a few cells flipped, so that
-    /// large shapes too leave something.
-    pub fn picture(&mut self, (w, h): (usize, usize)) -> Vec<u8> {
+    /// large shapes too leave something. All are measured.
+    pub fn measured(&mut self, (w, h): (usize, usize)) -> Vec<u8> {
         if self.random.once_in(3) {
-            return self.frames.cells(w * h);
+            return self.frames.measured(w * h);
         }
         let ground = self.random.below(2) as u8;
         let mut cells = vec![ground; w * h];

@@ -4,7 +4,6 @@
 use super::grounds::holding;
 use super::plane::Plane;
 use super::{Case, Op};
-use crate::frames::Around;
 use crate::reference::points::{of_plan, Point};
 
 /// What a case comes to: the number of stages run and the cells of the part, or the
@@ -18,41 +17,20 @@ pub fn run(case: &Case) -> Result<(usize, Vec<u8>), usize> {
     Ok((case.op.stages_run(case.stages()), cells))
 }
 
-/// The cells of the result: what the operation makes of X and A, cut to the frame. X is
-/// the frame's occupied points, for erosion alone joined to everything outside the frame.
+/// The cells of the result: what the operation makes of the frame and A, cut to the frame.
+/// Cells outside it are occupied for erosion alone, and free for the others and within them.
 pub fn directly(op: Op, size: (usize, usize), frame: &[u8], a: &[Point]) -> Vec<u8> {
-    match op.around() {
-        Around::Occupied => eroded_alone(size, frame, a),
-        Around::Free => on_the_plane(op, &Plane::of_frame(size, frame), a).cells(size),
-    }
+    let x = Plane::of_frame(size, frame, op.around().cell());
+    on_the_plane(op, &x, a).cells(size)
 }
 
-/// A cell p of the frame is 1 if p + q is an occupied cell of it or outside it for every
-/// q of A, so 0 if some p + q is a free cell of the frame.
-fn eroded_alone((w, h): (usize, usize), frame: &[u8], a: &[Point]) -> Vec<u8> {
-    let (columns, rows) = (0..w as i64, 0..h as i64);
-    let is_free = |x: i64, y: i64| {
-        let inside = columns.contains(&x) && rows.contains(&y);
-        inside && frame[y as usize * w + x as usize] == 0
-    };
-    let mut cells = Vec::with_capacity(w * h);
-    for y in rows.clone() {
-        for x in columns.clone() {
-            let meets_free = a.iter().any(|q| is_free(x + q.0, y + q.1));
-            cells.push(u8::from(!meets_free));
-        }
-    }
-    cells
-}
-
-/// The set that the operation makes of X and A where X is finite: every point outside the
-/// frame is free, as it is within opening and closing.
+/// The plane that the operation makes of the cells and A, whatever those outside are.
 pub fn on_the_plane(op: Op, x: &Plane, a: &[Point]) -> Plane {
     match op {
-        Op::Dilate => x.plus(a),
-        Op::Erode => x.minus(a),
-        Op::Open => x.minus(a).plus(a),
-        Op::Close => x.plus(a).minus(a),
+        Op::Dilate => x.dilated(a),
+        Op::Erode => x.eroded(a),
+        Op::Open => x.eroded(a).dilated(a),
+        Op::Close => x.dilated(a).eroded(a),
     }
 }
 

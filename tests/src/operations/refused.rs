@@ -14,14 +14,15 @@ impl Maker {
         let holds = |ground: usize| held.contains(&ground);
         let plan = self.refused_plan(held);
         let size = self.size_with(holds(11), holds(13));
-        let mut frame = vec![1; self.frame_length(size.0 * size.1, holds(12))];
+        let cells = self.frame_length(size.0 * size.1, holds(12));
+        let mut frame = vec![self.random.pick(&[0, 1, 2]); cells];
         if holds(13) {
             let place = match self.random.below(3) {
                 0 => 0,
                 1 => frame.len() - 1,
                 _ => self.random.below(frame.len()),
             };
-            frame[place] = self.random.pick(&[2, 3, 128, 255]);
+            frame[place] = self.random.pick(&[3, 4, 128, 255]);
         }
         let grid = grid_of(size.0, size.1);
         let less = match holds(14) {
@@ -31,7 +32,7 @@ impl Maker {
         Case::new(op, &plan, size, &frame, (grid - less.0, grid - less.1))
     }
 
-    /// A size, bad by ground 11 or not; it has cells, if one is to be above 1.
+    /// A size, bad by ground 11 or not; it has cells, if one is to be above 2.
     pub fn size_with(&mut self, bad: bool, cell: bool) -> (usize, usize) {
         match (bad, cell) {
             (false, _) => self.random.pick(&GOOD_SIZES),

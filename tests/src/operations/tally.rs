@@ -13,9 +13,11 @@ pub struct Tally {
     pairs: [[u64; 15]; 15],
     /// Plans that ran, by their number of stages.
     stages: [u64; 31],
-    /// Results with an occupied cell, with a free one, and unlike the frame.
+    /// Results with an occupied cell, with a free one, with one that isn't measured, and
+    /// unlike the frame.
     occupied: [u64; 4],
     free: [u64; 4],
+    unmeasured: [u64; 4],
     changed: [u64; 4],
 }
 
@@ -31,6 +33,7 @@ impl Tally {
                 self.stages[case.stages()] += 1;
                 self.occupied[op] += u64::from(part.contains(&1));
                 self.free[op] += u64::from(part.contains(&0));
+                self.unmeasured[op] += u64::from(part.contains(&2));
                 self.changed[op] += u64::from(*part != case.frame);
             }
         }
@@ -93,6 +96,13 @@ impl Tally {
             let enough = counts.iter().all(|&count| count >= least);
             assert!(enough, "results of the four operations {counts:?}");
         }
+    }
+
+    /// Each operation gave so many results with a cell that isn't measured.
+    pub fn assert_unmeasured(&self, least: u64) {
+        println!("not measured {:?}", self.unmeasured);
+        let enough = self.unmeasured.iter().all(|&count| count >= least);
+        assert!(enough, "not measured {:?}", self.unmeasured);
     }
 
     /// Plans of each number of stages up to this one ran so often.

@@ -45,5 +45,5 @@ fn wrong_row(case: &Case) -> bool {
 /// Ground 13 over both frames and the row.
 fn bad_cell(case: &Case) -> bool {
     let all = [&case.live, &case.kept, &case.row];
-    all.iter().any(|cells| cells.iter().any(|&cell| cell > 1))
+    all.iter().any(|cells| cells.iter().any(|&cell| cell > 2))
 }

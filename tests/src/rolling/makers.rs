@@ -4,7 +4,7 @@ use super::Case;
 use crate::operations::makers::Maker;
 
 impl Maker {
-    /// A row of free cells, of a few occupied ones, or of any.
+    /// A row of free cells, of a few occupied ones and a few not measured, or of any.
     pub fn row(&mut self, w: usize) -> Vec<u8> {
         let mut row = vec![0; w];
         match self.random.below(4) {
@@ -12,7 +12,7 @@ impl Maker {
             1 => row = self.picture((w, 1)),
             _ => {
                 for _ in 0..1 + self.random.below(3) {
-                    row[self.random.below(w)] = 1;
+                    row[self.random.below(w)] = self.random.pick(&[1, 1, 2]);
                 }
             }
         }
@@ -35,7 +35,9 @@ impl Maker {
         let size = self.size_with(holds(11), holds(13));
         let (live, kept) = self.frame_lengths(size.0 * size.1, holds(12));
         let row = self.frame_length(size.0, holds(15));
-        let mut case = Case::new(&plan, size, &vec![1; row], &vec![1; live], &vec![1; kept]);
+        let cell = self.random.pick(&[0, 1, 2]);
+        let cells = |n: usize| vec![cell; n];
+        let mut case = Case::new(&plan, size, &cells(row), &cells(live), &cells(kept));
         if holds(13) {
             self.spoil_a_cell(&mut case);
         }
@@ -55,7 +57,7 @@ impl Maker {
         }
     }
 
-    /// A cell above 1 in the row or in either frame, where there is one.
+    /// A cell above 2 in the row or in either frame, where there is one.
     fn spoil_a_cell(&mut self, case: &mut Case) {
         let parts = [&mut case.row, &mut case.live, &mut case.kept];
         let mut parts: Vec<_> = parts.into_iter().filter(|part| !part.is_empty()).collect();
@@ -63,6 +65,6 @@ impl Maker {
         let last = parts[part].len() - 1;
         let any = self.random.below(last + 1);
         let place = self.random.pick(&[0, last, any]);
-        parts[part][place] = self.random.pick(&[2, 3, 128, 255]);
+        parts[part][place] = self.random.pick(&[3, 4, 128, 255]);
     }
 }

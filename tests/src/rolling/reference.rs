@@ -22,9 +22,9 @@ pub fn reach(points: &[Point]) -> usize {
     far.max().expect("a plan has a point")
 }
 
-/// X ⊕ A cut to the frame, where X is the frame's occupied points.
+/// Dilation by the points, cut to the frame; cells outside it are free.
 pub fn dilation(size: (usize, usize), frame: &[u8], points: &[Point]) -> Vec<u8> {
-    Plane::of_frame(size, frame).plus(points).cells(size)
+    Plane::of_frame(size, frame, 0).dilated(points).cells(size)
 }
 
 /// The row lies farther from row 0 and from the last row than that.

@@ -20,8 +20,10 @@ pub struct Waterfall {
     present: Vec<u8>,
     pub taken: usize,
     pub refused: usize,
-    /// Calls after which the kept frame has free cells and occupied ones.
+    /// Calls after which the kept frame has free cells and occupied ones, and calls after
+    /// which it has cells that aren't measured.
     pub mixed: usize,
+    pub unmeasured: usize,
 }
 
 impl Waterfall {
@@ -37,6 +39,7 @@ impl Waterfall {
             taken: 0,
             refused: 0,
             mixed: 0,
+            unmeasured: 0,
         }
     }
 
@@ -48,7 +51,6 @@ impl Waterfall {
         self.present.extend(row);
         self.taken += 1;
         self.assert_frames();
-        self.mixed += usize::from(self.kept.contains(&0) && self.kept.contains(&1));
     }
 
     /// A row arrives with a plan and a size that may be others, and is refused.
@@ -59,12 +61,11 @@ impl Waterfall {
         assert_eq!(answer, -(ground as i64), "{case}");
         self.refused += 1;
         self.assert_frames();
-        self.mixed += usize::from(self.kept.contains(&0) && self.kept.contains(&1));
     }
 
     /// The live frame is the rows now present, the kept one their whole dilation, by the
     /// plan's points and by the library's operation.
-    fn assert_frames(&self) {
+    fn assert_frames(&mut self) {
         let after = || {
             let (taken, refused) = (self.taken, self.refused);
             let plan = hex(&self.plan);
@@ -78,6 +79,9 @@ impl Waterfall {
         assert!(self.kept == direct, "the kept frame: {}", after());
         let operated = self.operated();
         assert!(self.kept == operated, "the operation's: {}", after());
+        let has = |cell: u8| self.kept.contains(&cell);
+        self.mixed += usize::from(has(0) && has(1));
+        self.unmeasured += usize::from(has(2));
     }
 
     /// The part that the library's dilation of the live frame hands back.

@@ -4,11 +4,16 @@
 use super::Case;
 
 /// The grounds that the call can meet, in checking order.
-pub const GROUNDS: [i64; 3] = [11, 12, 13];
+pub const GROUNDS: [i64; 4] = [11, 12, 13, 16];
 
 /// All grounds that hold, in checking order.
 pub fn holding(case: &Case) -> Vec<i64> {
-    let holds = [bad_size(case), wrong_length(case), bad_cell(case)];
+    let holds = [
+        bad_size(case),
+        wrong_length(case),
+        bad_cell(case),
+        none_measured(case),
+    ];
     let held = GROUNDS.into_iter().zip(holds).filter(|(_, holds)| *holds);
     held.map(|(ground, _)| ground).collect()
 }
@@ -23,5 +28,10 @@ fn wrong_length(case: &Case) -> bool {
 }
 
 fn bad_cell(case: &Case) -> bool {
-    case.frame.iter().any(|&cell| cell > 1)
+    case.frame.iter().any(|&cell| cell > 2)
+}
+
+/// Ground 16: no cell is free or occupied. A cell above 2 is neither.
+fn none_measured(case: &Case) -> bool {
+    !case.frame.iter().any(|&cell| cell == 0 || cell == 1)
 }

@@ -7,7 +7,7 @@ use crate::frames::refused::Kind;
 use crate::random::Random;
 
 /// Values that no cell has.
-pub const BAD_CELLS: [u8; 5] = [2, 3, 128, 254, 255];
+pub const BAD_CELLS: [u8; 5] = [3, 4, 128, 254, 255];
 
 /// Sides that no frame has; cut to 8, 16 or 32 bits, some would do.
 pub const BAD_SIDES: [usize; 13] = [
@@ -66,21 +66,31 @@ impl Maker {
         frame
     }
 
-    /// A case that no ground refuses, of any density.
+    /// A case that no ground refuses, of any density: some cells are not measured, one is.
     pub fn share(&mut self, size: (usize, usize)) -> Case {
         let cells = size.0 * size.1;
         let occupied = self.random.below(cells + 1);
-        let frame = match self.random.once_in(2) {
+        let mut frame = match self.random.once_in(2) {
             true => self.with_occupied(cells, occupied),
-            false => self.frames.cells(cells),
+            false => self.frames.measured(cells),
         };
+        let (place, cell) = (self.random.below(cells), self.random.below(2) as u8);
+        self.frames.unmeasure(&mut frame);
+        if frame.iter().all(|&cell| cell == 2) {
+            frame[place] = cell;
+        }
         Case::new(size, &frame, self.before())
     }
 
-    /// A case in which these grounds hold and no other.
+    /// A case in which these grounds hold and no other; but 16 holds too where there is no
+    /// cell, or just one that is above 2.
     pub fn refused(&mut self, held: &[i64]) -> Case {
         let load = self.frames.refused(Kind::Load, held);
-        Case::new((load.w, load.h), &load.read, self.before())
+        let mut case = Case::new((load.w, load.h), &load.read, self.before());
+        if held.contains(&16) {
+            case.unmeasure();
+        }
+        case
     }
 
     /// The first place, the last or any.
@@ -89,10 +99,10 @@ impl Maker {
         self.random.pick(&[0, n - 1, any])
     }
 
-    /// Another side, a frame of another length, or a cell above 1.
+    /// Another side, a frame of another length, a cell above 2, or no measured cell.
     pub fn damage(&mut self, case: &mut Case) {
         let (n, bad) = (case.frame.len(), self.random.pick(&BAD_SIDES));
-        match self.random.below(8) {
+        match self.random.below(9) {
             0 => case.w = bad,
             1 => case.h = bad,
             2 => case.w = self.frames.side(),
@@ -102,6 +112,7 @@ impl Maker {
             6 => {
                 case.frame.pop();
             }
+            7 => case.unmeasure(),
             _ if n == 0 => {}
             _ => {
                 let place = self.place(n);

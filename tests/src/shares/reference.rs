@@ -3,7 +3,6 @@
 
 use super::grounds::holding;
 use super::Case;
-use crate::frames::reference::occupied;
 
 #[derive(Clone, Copy, Debug, PartialEq, Eq)]
 pub struct Share {
@@ -11,18 +10,19 @@ pub struct Share {
     pub remainder: u32,
 }
 
-/// What the quotient leaves of 10,000 × occupied, if that is 0 or more and below W × H.
-fn left_by(quotient: i64, cells: i64, occupied: i64) -> Option<u32> {
-    let remainder = 10_000 * occupied - quotient * cells;
-    let bounded = (0..cells).contains(&remainder);
+/// What the quotient leaves of 10,000 × occupied, if that is 0 or more and below the
+/// number of measured cells.
+fn left_by(quotient: i64, measured: i64, occupied: i64) -> Option<u32> {
+    let remainder = 10_000 * occupied - quotient * measured;
+    let bounded = (0..measured).contains(&remainder);
     bounded.then_some(remainder as u32)
 }
 
-/// The pair for so many occupied cells of so many. With no more occupied cells than there
-/// are, a quotient above 10,000 leaves less than nothing.
-pub fn share_of(cells: i64, occupied: i64) -> Share {
+/// The pair for so many occupied cells of so many measured ones. With no more occupied cells
+/// than measured ones, a quotient above 10,000 leaves less than nothing.
+pub fn share_of(measured: i64, occupied: i64) -> Share {
     let pair = |quotient| {
-        let remainder = left_by(quotient, cells, occupied)?;
+        let remainder = left_by(quotient, measured, occupied)?;
         Some(Share {
             quotient,
             remainder,
@@ -39,6 +39,6 @@ pub fn run(case: &Case) -> Result<Share, i64> {
     if let Some(&ground) = holding(case).first() {
         return Err(ground);
     }
-    let cells = (case.w * case.h) as i64;
-    Ok(share_of(cells, occupied(&case.frame, case.w).len() as i64))
+    let count = |value: u8| case.frame.iter().filter(|&&cell| cell == value).count() as i64;
+    Ok(share_of(count(0) + count(1), count(1)))
 }

@@ -14,7 +14,7 @@ pub struct Tally {
     pairs: BTreeMap<(i64, i64), u64>,
     /// Quotients of 0 and of 10,000 and others.
     quotients: [u64; 3],
-    /// Remainders of 0 and of W × H - 1 and others, of frames of two cells or more.
+    /// Remainders of 0, of the measured cells less 1, and others, where those are two or more.
     remainders: [u64; 3],
 }
 
@@ -27,7 +27,7 @@ impl Tally {
         }
         let Ok(share) = result else { return };
         self.quotients[place_in([0, 10_000], share.quotient)] += 1;
-        let last = (case.w * case.h - 1) as i64;
+        let last = case.measured() - 1;
         if last > 0 {
             self.remainders[place_in([0, last], share.remainder.into())] += 1;
         }
