@@ -22,6 +22,7 @@ mod share;
 mod small;
 mod stages;
 mod table;
+mod unmeasured;
 
 /// W and H of a frame.
 #[derive(Clone, Copy)]
@@ -85,6 +86,7 @@ pub fn run() {
     let operations = operations::run();
     let (thin_arrivals, thick_arrivals) = arriving::run();
     let (small_stages, small_operations) = small::run();
+    let (stages_with_holes, operations_with_holes) = unmeasured::run();
     goals::print(&Rows {
         puts,
         loads,
@@ -95,5 +97,7 @@ pub fn run() {
         thick_arrivals,
         small_stages,
         small_operations,
+        stages_with_holes,
+        operations_with_holes,
     });
 }

@@ -12,7 +12,7 @@ use musqerpi_tests::operations::makers::planned;
 use musqerpi_tests::operations::{plan_list, Case, Op, OPS};
 use std::hint::black_box;
 
-const PACE: Pace = Pace {
+pub const PACE: Pace = Pace {
     rounds: 41,
     times: 1,
     decimals: 1,
@@ -47,7 +47,7 @@ pub fn window() -> Vec<u32> {
 }
 
 /// Thin masks and thick shapes, of 1, 4 and 8 stages.
-fn plans() -> Vec<Plan> {
+pub fn plans() -> Vec<Plan> {
     let thin = [3, 3, 5, 5, 9, 9, 65, 65];
     vec![
         ("1 stage, 2 cells", plan_list((0, 0), &[17])),
@@ -59,13 +59,13 @@ fn plans() -> Vec<Plan> {
     ]
 }
 
-fn size_of(case: &Case) -> Size {
+pub fn size_of(case: &Case) -> Size {
     let (w, h) = (case.w, case.h);
     Size { w, h }
 }
 
 /// The passes of the operation, all in its kind of grid.
-fn modes(op: Op) -> impl Iterator<Item = Mode> {
+pub fn modes(op: Op) -> impl Iterator<Item = Mode> {
     let mode = move |&erode| Mode {
         erode,
         around: op.around(),
@@ -76,13 +76,18 @@ fn modes(op: Op) -> impl Iterator<Item = Mode> {
 /// Cell (x, y) of the frame is the grid's, moved by the operation's offset, and outside the
 /// grid what its kind says. The offset is less than W either way.
 fn cut(case: &Case, grid: &[u8], cells: &mut [u8]) {
+    cut_among(case, case.op.around().cell(), grid, cells);
+}
+
+/// The same with this value outside the grid.
+pub fn cut_among(case: &Case, outside: u8, grid: &[u8], cells: &mut [u8]) {
     let (dx, dy) = case.offset();
     let (dx, dy) = match case.op {
         Op::Dilate => (-dx, -dy),
         Op::Erode => (dx, dy),
         Op::Open | Op::Close => (0, 0),
     };
-    let (outside, first) = (case.op.around().cell(), case.op.around().start());
+    let first = case.op.around().start();
     // From the frame's column and row to the grid's.
     let (dx, dy) = (dx - first, dy - first);
     let (w, width) = (case.w, size_of(case).width());
@@ -241,9 +246,8 @@ fn engines<'a>(case: &'a Case, forms: &'a Forms) -> Vec<Engine<'a>> {
     engines
 }
 
-/// A row, with its operation and the stages of its plan.
+/// A row, with the stages of its plan.
 pub struct Whole {
-    pub op: Op,
     pub stages: usize,
     pub row: Row,
 }
@@ -259,7 +263,7 @@ pub fn rows(table: &mut Table, plans: &[Plan]) -> Vec<Whole> {
             let forms = Forms::of(plan);
             let row = table.row(format!("{op:?}, {name}"), engines(&case, &forms));
             let stages = case.stages();
-            rows.push(Whole { op, stages, row });
+            rows.push(Whole { stages, row });
         }
     }
     rows

@@ -30,12 +30,23 @@ pub mod opencv {
 
     /// The grid taken through the kernel.
     pub fn apply(kernel: &Kernel, mode: Mode, width: usize, from: &[u8], to: &mut [u8]) {
+        let shape = (mode.erode, mode.around.cell(), width);
+        apply_among(kernel, shape, from, to);
+    }
+
+    /// The same by erosion or by dilation, with this value outside, and columns of the grid.
+    pub fn apply_among(
+        kernel: &Kernel,
+        (erode, outside, width): (bool, u8, usize),
+        from: &[u8],
+        to: &mut [u8],
+    ) {
         let height = from.len() / width;
         assert!(to.len() == from.len() && width * height == from.len());
         assert!(kernel.block.len() <= 256, "the other side has 256 bytes");
         let (w, h) = (width as c_int, height as c_int);
         let (kw, kh) = (kernel.w as c_int, kernel.h as c_int);
-        let (erode, outside) = (c_int::from(mode.erode), c_int::from(mode.around.cell()));
+        let (erode, outside) = (c_int::from(erode), c_int::from(outside));
         let (from, to, cells) = (from.as_ptr(), to.as_mut_ptr(), kernel.block.as_ptr());
         // SAFETY: both grids have w × h bytes, and the kernel kw × kh, see above.
         unsafe { bench_opencv(from, to, w, h, cells, kw, kh, erode, outside) }

@@ -14,6 +14,39 @@ pub fn grid(size: Size, mode: Mode) -> Vec<u8> {
     grid
 }
 
+/// Cells that were not measured among the others: one in the middle, or half of them.
+#[derive(Clone, Copy, PartialEq)]
+pub enum Holes {
+    One,
+    Half,
+}
+
+impl Holes {
+    pub fn name(self) -> &'static str {
+        match self {
+            Holes::One => "one 2",
+            Holes::Half => "half 2s",
+        }
+    }
+
+    /// The cells with their holes.
+    pub fn into(self, cells: &[u8]) -> Vec<u8> {
+        let mut random = Random::new(2029);
+        let mut cells = cells.to_vec();
+        match self {
+            Holes::One => {
+                let middle = cells.len() / 2;
+                cells[middle] = 2;
+            }
+            Holes::Half => cells
+                .iter_mut()
+                .filter(|_| random.once_in(2))
+                .for_each(|cell| *cell = 2),
+        }
+        cells
+    }
+}
+
 /// A random frame in which so many of 64 cells are occupied.
 pub fn scattered(size: Size, of_64: usize) -> Vec<u8> {
     let mut random = Random::new(2028);

@@ -12,8 +12,13 @@ const CHUNK: usize = 4096;
 /// Fills the grid with 0, or with 1 in the second kind, and then copies the frame row by
 /// row. Like the library it isn't told size and kind when it is compiled.
 pub fn put(size: Size, frame: &[u8], around: Around, grid: &mut [u8]) {
+    put_among(size, frame, around, around.cell(), grid);
+}
+
+/// The same with this value around the frame.
+pub fn put_among(size: Size, frame: &[u8], around: Around, cell: u8, grid: &mut [u8]) {
     let (w, width) = black_box((size.w, size.width()));
-    let (first, cell) = black_box((size.first(around), around.cell()));
+    let (first, cell) = black_box((size.first(around), cell));
     grid.fill(cell);
     for (to, from) in grid[first..].chunks_mut(width).zip(frame.chunks(w)) {
         to[..w].copy_from_slice(from);

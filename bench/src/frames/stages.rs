@@ -19,7 +19,7 @@ const MASKS: [u32; 14] = [
 /// Of 2, 5 and 9 cells, for the second kind of grid.
 const MASKS_AMONG_1S: [u32; 3] = [3, 186, 511];
 
-const PACE: Pace = Pace {
+pub const PACE: Pace = Pace {
     rounds: 101,
     times: 8,
     decimals: 1,

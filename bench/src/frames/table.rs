@@ -44,6 +44,19 @@ pub fn asked(read: bool, cells: &[u8]) -> Vec<u8> {
     }
 }
 
+/// The same where 0 or 1 may be missing, as long as some other value is there.
+pub fn asked_any(read: bool, cells: &[u8]) -> Vec<u8> {
+    if read {
+        assert!(
+            cells.iter().any(|cell| *cell != cells[0]),
+            "cells all alike"
+        );
+        cells.to_vec()
+    } else {
+        Vec::new()
+    }
+}
+
 /// Memory that an engine works on: bytes that it reads, some between, and bytes that it
 /// writes. It starts with a page, so that of two engines neither is the better for where
 /// its bytes stand.
