@@ -81,7 +81,7 @@ pub extern "C" fn musq_share(w: usize, h: usize, frame: &[u8], remainder: &mut u
 pub extern "C" fn musq_put(w: usize, h: usize, frame: &[u8], around: u8, image: &mut [u8]) -> i64
     ensures { λ r. ⌜ Stands r (λ a. FramePut (aroundOf around) w h (now (frame .entry)) (now (image .entry)) a (now (image .exit))) ⌝ }
 {
-    numbers::signed(frame_calls::put(w, h, frame, numbers::around_of(around), image))
+    numbers::signed(put_calls::put(w, h, frame, numbers::around_of(around), image))
 }
 
 // A single stage, by erosion if the byte erode is anything but 0, else by dilation, in the second kind of grid if the byte around is.

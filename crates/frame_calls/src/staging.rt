@@ -3,19 +3,9 @@ use grids::Around;
 ghost use mathlib.Core.Path.{_≡_};
 ghost use Prim.Native.Nat.{_+_, _≤_};
 ghost use lib.ListN.{length};
-ghost use Rattle.grids.specs.Grid.{outsideOf, once, written};
+ghost use Rattle.grids.specs.Grid.{once, written};
 ghost use Rattle.planes.specs.Planes.{planeSize};
 ghost use Rattle.frame_calls.specs.Staging.{StageReady, AllMeasured, PlanesReady, LevelTaken, SecondTaken, LevelsTaken};
-
-// The value outside a kind of grid, and around the frame in it.
-pub(crate) fn outside(around: Around) -> u8
-    ensures { λ r. ⌜ r ≡ outsideOf around ⌝ }
-{
-    match around {
-        Around::Free => 0,
-        Around::Occupied => 1,
-    }
-}
 
 // One level of a grid through the stage of mask, both of the kind that around says: it is packed into a plane in the image that will be written, which has room
 // for it, and taken through the stage into a plane lent for that.
@@ -33,7 +23,7 @@ fn level(
     requires { ⌜ StageReady w h (now from) (now to) × (planeSize (w + 15) (h + 15) ≤ length (now plane)) ⌝ }
     ensures { λ _. ⌜ LevelTaken some erode around w h mask (now (from .entry)) (now (to .entry)) (now (plane .entry)) (now (to .exit)) (now (plane .exit)) ⌝ }
 {
-    let beyond = outside(around);
+    let beyond = put_calls::outside(around);
     plane_pack_steps::pack(
         from,
         to,
@@ -106,7 +96,7 @@ fn by_planes(
     ensures { λ _. ⌜ now (to .exit) ≡ written w h (once erode around w h mask (now (from .entry))) (now (to .entry)) ⌝ }
 {
     levels(from, to, plane, w, h, mask, around, erode, o);
-    let beyond = outside(around);
+    let beyond = put_calls::outside(around);
     plane_unpack_steps::unpack(plane, to, w + 15, h + 15, w + 15, h + 15, 15, 15, beyond, o);
 }
 

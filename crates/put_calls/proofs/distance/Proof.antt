@@ -3,8 +3,8 @@ use borrow.Author.Needs.{needs}
 use mathlib.Core.Path.{sym, ap}
 use Prim.Native.Nat.{_-_}
 use Rattle.grids.specs.Grid.{startOf}
-use Rattle.frame_calls.proofs.distance.Statement.{statement}
-use Rattle.frame_calls.proofs.distance.Tie as tie
+use Rattle.put_calls.proofs.distance.Statement.{statement}
+use Rattle.put_calls.proofs.distance.Tie as tie
 
 enum-told : tie.Need-enum-told
 enum-told c = search needs

@@ -5,9 +5,9 @@ use mathlib.Core.Path.{refl}
 use Rattle.words.proofs.Tested.{no-refusal, refused-call}
 use Rattle.grids.specs.Grid.{putTests}
 use Rattle.frame_grounds.proofs.Sides.{sides}
-use Rattle.frame_calls.proofs.Fitting.{put-sides, put-done}
-use Rattle.frame_calls.proofs.put.Statement.{statement}
-use Rattle.frame_calls.proofs.put.Tie as tie
+use Rattle.put_calls.proofs.Fitting.{put-sides, put-done}
+use Rattle.put_calls.proofs.put.Statement.{statement}
+use Rattle.put_calls.proofs.put.Tie as tie
 
 put-refusal-requires : tie.Need-put-refusal-requires
 put-refusal-requires c κs = search needs
