@@ -102,7 +102,7 @@ fn median(mut times: Vec<f64>) -> f64 {
 /// A goal, whether this run meets it, and what was found.
 fn print_goal(goal: &str, found: String, met: bool) {
     let verdict = if met { "met" } else { "NOT MET" };
-    println!("  {goal:<42}{verdict:<9}{found}");
+    println!("  {goal:<55}{verdict:<9}{found}");
 }
 
 /// The median seconds of each engine, the rounds interleaved after one to warm up.
