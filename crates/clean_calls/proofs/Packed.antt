@@ -28,7 +28,7 @@ use Rattle.turn_steps.proofs.Alternating.{kept-past}
 use Rattle.result_steps.specs.Levels.{Behind}
 use Rattle.ranges.proofs.Tails.{put-tail}
 use Rattle.result_steps.proofs.Behind.{behind}
-use Rattle.clean_calls.specs.Packing.{Packable, FrameShown, SecondPacked, LevelsPacked}
+use Rattle.clean_calls.specs.Packing.{FramePackable, FrameShown, SecondPacked, LevelsPacked}
 
 -- a frame that is packed for one operation
 pub by-kind : (op o : Operation) → op ≡ o → {some : Bool} {W H : ℕ} {f d : List ℕ} {r : Bool} {d′ : List ℕ}
@@ -42,7 +42,7 @@ module _ (k : Around) (W H : ℕ) (f : List ℕ) where
   size = planeSize (W + 15) (H + 15)
 
   -- it goes into a plane
-  pub packs : {two : Bool} {i : List ℕ} (d : List ℕ) → Packable two W H f i → size ≤ length d
+  pub packs : {two : Bool} {i : List ℕ} (d : List ℕ) → FramePackable two W H f i → size ≤ length d
       → T (packFits (outsideOf k) (farOf k) W H (W + 15) (H + 15) (length f) (length d))
   packs d q h =
       let s = sides W H (q .sides) in
@@ -54,7 +54,7 @@ module _ (k : Around) (W H : ℕ) (f : List ℕ) where
       place-low Occupied = omega arith
 
   -- which shows a level of the grid
-  pub packed-shows : (some : Bool) {two : Bool} {i d d′ : List ℕ} → Packable two W H f i
+  pub packed-shows : (some : Bool) {two : Bool} {i d d′ : List ℕ} → FramePackable two W H f i
       → FramePacked some (outsideOf k) (farOf k) W H (W + 15) (H + 15) f d d′ → FrameShown some k W H f d′
   packed-shows some {d′ = d′} q p = subst (λ (g : Point → ℕ). Shows (W + 15) (H + 15) g d′) (packed-grid some k W H f (q .cells) (q .upto)) (p .shown)
 
@@ -69,7 +69,7 @@ module _ (k : Around) (W H : ℕ) (f : List ℕ) where
 
   -- ---- the second plane
 
-  module _ {two : Bool} {i : List ℕ} (q : Packable two W H f i) where
+  module _ {two : Bool} {i : List ℕ} (q : FramePackable two W H f i) where
     pub first-long : size ≤ length i
     first-long = let g = planes-fit W H in omega (arith, q .room)
 
@@ -117,7 +117,7 @@ module _ (k : Around) (W H : ℕ) (f : List ℕ) where
         some = s .shown;
       })
 
-      pub still-packable : two ≡ true → Packable true W H f i₁
+      pub still-packable : two ≡ true → FramePackable true W H f i₁
       still-packable b = record {
         sides = q .sides;
         cells = q .cells;

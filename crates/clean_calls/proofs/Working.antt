@@ -36,7 +36,7 @@ use Rattle.result_steps.specs.Levels.{LevelsEnded}
 use Rattle.result_steps.specs.Running.{Runnable}
 use Rattle.result_steps.proofs.Reading.{cut-turn}
 use Rattle.plan_grounds.proofs.Accepted.{plan-length, place-small}
-use Rattle.clean_calls.specs.Packing.{Packable, LevelsPacked}
+use Rattle.clean_calls.specs.Packing.{FramePackable, LevelsPacked}
 use Rattle.grids.proofs.Putting.{put-upto}
 
 drop-either : (b : Bool) (o : ℕ) (i j : List ℕ) → drop o (cond b i j) ≡ cond b (drop o i) (drop o j)
@@ -78,11 +78,8 @@ module _ (plan : List ℕ) (W H : ℕ) (f i j : List ℕ) (z : firstOf (operatio
   unfolding workTests
   cells-upto = passing f (work-clear .1 .1 .0)
 
-  has-room : Room W H i j
-  has-room = record { sides = sides-pass; first = room .0; second = room .1 }
-
   -- so it is packed: into one plane where its greatest number is not above 1
-  pub packable : {g : ℕ} → g ≡ greatestCell W H f → Packable (ltb 1 g) W H f i
+  pub packable : {g : ℕ} → g ≡ greatestCell W H f → FramePackable (ltb 1 g) W H f i
   packable {g} e = record {
     sides = sides-pass;
     cells = cells-all;

@@ -12,7 +12,7 @@ use Rattle.planes.specs.Planes.{planeSize, secondAt, Shows}
 use Rattle.result_steps.specs.Levels.{Behind}
 
 -- what can be packed: sides that pass, all cells, none above 2, and none above 1 where there is one plane; and an image with room for the grid
-pub record Packable (two : Bool) (W H : ℕ) (f i : List ℕ) : Type 0 where
+pub record FramePackable (two : Bool) (W H : ℕ) (f i : List ℕ) : Type 0 where
   pub sides : badSize W H ≡ false
   pub cells : W * H ≤ length f
   pub upto : (k : ℕ) → getD f k 0 ≤ highest

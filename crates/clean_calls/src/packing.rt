@@ -6,7 +6,7 @@ ghost use mathlib.Core.Bool.{true};
 ghost use Rattle.grids.specs.Grid.{outsideOf};
 ghost use Rattle.planes.specs.Planes.{farOf, Packed};
 ghost use Rattle.cleaning.specs.Operation.{around};
-ghost use Rattle.clean_calls.specs.Packing.{Packable, SecondPacked, LevelsPacked};
+ghost use Rattle.clean_calls.specs.Packing.{FramePackable, SecondPacked, LevelsPacked};
 
 // One level packed into a plane in the image, in the kind of grid that the operation works in: erosion's frame stands at (15, 15), among occupied cells.
 fn level(op: Operation, w: usize, h: usize, frame: &[u8], first: &mut [u8], some: bool) -> bool
@@ -32,7 +32,7 @@ fn level(op: Operation, w: usize, h: usize, frame: &[u8], first: &mut [u8], some
 
 // The second level, behind the first plane.
 fn second_level(op: Operation, w: usize, h: usize, frame: &[u8], first: &mut [u8])
-    requires { ⌜ Packable true w h (now frame) (now first) ⌝ }
+    requires { ⌜ FramePackable true w h (now frame) (now first) ⌝ }
     ensures { λ _. ⌜ SecondPacked (around op) w h (now (frame .entry)) (now (first .entry)) (now (first .exit)) ⌝ }
 {
     let o = turn_steps::plane_bytes(w, h);
@@ -42,7 +42,7 @@ fn second_level(op: Operation, w: usize, h: usize, frame: &[u8], first: &mut [u8
 
 // Both levels: one plane has them where no cell is 2.
 pub(crate) fn levels(op: Operation, w: usize, h: usize, frame: &[u8], first: &mut [u8], two: bool)
-    requires { ⌜ Packable two w h (now frame) (now first) ⌝ }
+    requires { ⌜ FramePackable two w h (now frame) (now first) ⌝ }
     ensures { λ _. ⌜ LevelsPacked two (around op) w h (now (frame .entry)) (now (first .entry)) (now (first .exit)) ⌝ }
 {
     level(op, w, h, frame, first, false);

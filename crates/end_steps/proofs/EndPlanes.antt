@@ -38,7 +38,7 @@ use Rattle.frame_grounds.proofs.Looked.{cell-below, cell-decides}
 use Rattle.turn_steps.specs.Turns.{standingImage, PlaneRoom, Shown, Ended, Turnable}
 use Rattle.result_steps.proofs.Reading.{cut-turn}
 use Rattle.end_steps.specs.Ends.{Part, EndPart, EndRows}
-use Rattle.end_steps.specs.PartLevels.{PartMeasured, PartRoom, partStages, lastOfPart, PartShown, LevelRun, Front, SecondRun, LevelsRun}
+use Rattle.end_steps.specs.PartLevels.{PartMeasured, PartRoom, partStages, lastOfPart, PartShown, LevelRun, KeptFront, SecondRun, LevelsRun}
 
 -- ---- rows of a cut, s rows lower
 
@@ -63,7 +63,7 @@ cond-tail : (o : ℕ) (b : Bool) (i j : List ℕ) {t u : List ℕ} → drop o i 
 cond-tail o true i j p q = sym p
 cond-tail o false i j p q = sym q
 
-cond-front : {C R o : ℕ} {f : Point → ℕ} (b : Bool) {i j i′ j′ : List ℕ} → planeSize C R ≤ o → Front o i i′ → Front o j j′ → Shows C R f (cond b i j)
+cond-front : {C R o : ℕ} {f : Point → ℕ} (b : Bool) {i j i′ j′ : List ℕ} → planeSize C R ≤ o → KeptFront o i i′ → KeptFront o j j′ → Shows C R f (cond b i j)
     → Shows C R f (cond b i′ j′)
 cond-front true l p q s = shows-front (p .size) (λ k h. p .front k (omega arith)) s
 cond-front false l p q s = shows-front (q .size) (λ k h. q .front k (omega arith)) s

@@ -47,14 +47,14 @@ pub record LevelRun (some : Bool) (plan : List ℕ) (W e : ℕ) (part i j : List
   pub shown : PartShown some plan W e part (standingImage (partStages plan) i′ j′)
 
 -- bytes as many as there were, and the same before byte o
-pub record Front (o : ℕ) (d d′ : List ℕ) : Type 0 where
+pub record KeptFront (o : ℕ) (d d′ : List ℕ) : Type 0 where
   pub size : length d′ ≡ length d
   pub front : (k : ℕ) → k < o → getD d′ k 0 ≡ getD d k 0
 
 -- the second level was, in the bytes from o on
 pub record SecondRun (o : ℕ) (plan : List ℕ) (W e : ℕ) (part i j i′ j′ : List ℕ) : Type 0 where
-  pub first : Front o i i′
-  pub second : Front o j j′
+  pub first : KeptFront o i i′
+  pub second : KeptFront o j j′
   pub shown : PartShown true plan W e part (drop o (standingImage (partStages plan) i′ j′))
 
 -- both levels were

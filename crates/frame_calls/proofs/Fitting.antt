@@ -17,7 +17,7 @@ use Rattle.grids.specs.Grid.{once, written, stageTests, Staged}
 use Rattle.grids.specs.declared.Around.{Around}
 use Rattle.frame_grounds.specs.Looking.{greatestByte}
 use Rattle.frame_grounds.proofs.Looked.{byte-below}
-use Rattle.frame_calls.specs.Staging.{StageReady, AllMeasured}
+use Rattle.frame_calls.specs.Staging.{StageReady, GridMeasured}
 
 module _ (w W H : ℕ) (g i : List ℕ) (z : firstOf (stageTests w W H g i) ≡ 0) where
   pub ready : StageReady W H g i
@@ -33,7 +33,7 @@ module _ (w W H : ℕ) (g i : List ℕ) (z : firstOf (stageTests w W H g i) ≡ 
       }
 
   -- no byte is above the greatest that was found
-  pub measured : greatestByte W H g ≤ 1 → AllMeasured W H g
+  pub measured : greatestByte W H g ≤ 1 → GridMeasured W H g
   measured l n h =
       subst (λ x. x ≤ 1) (getD-take (gridSize W H) g n 0 h)
       (let b = byte-below W H g (ready .sides) n in omega arith)

@@ -26,7 +26,7 @@ use Rattle.planes.specs.Bits.{level}
 use Rattle.planes.specs.Planes.{byteRows, planeSize, Shows, PlaneOnly, levelBits, packFits, FramePacked, stageFits, PlaneTaken, planeCells, unpackFits}
 use Rattle.planes.proofs.Levels.{level-low}
 use Rattle.planes.proofs.OnGrids.{level-view, after-once, near-place, plane-fits, kept-drop, grid-pack, grid-stage, grid-unpack, shown-cut, shows-front}
-use Rattle.frame_calls.specs.Staging.{StageReady, AllMeasured, PlanesReady, LevelTaken, SecondTaken, LevelsTaken}
+use Rattle.frame_calls.specs.Staging.{StageReady, GridMeasured, PlanesReady, LevelTaken, SecondTaken, LevelsTaken}
 
 module _ (erode : Bool) (k : Around) (W H m : ℕ) {g i : List ℕ} (r : StageReady W H g i) where
   abbrev C : ℕ
@@ -88,7 +88,7 @@ module _ (erode : Bool) (k : Around) (W H m : ℕ) {g i : List ℕ} (r : StageRe
 
   -- ---- both
 
-  after-binary : AllMeasured W H g → Upto 1 (gridBytes k W H after)
+  after-binary : GridMeasured W H g → Upto 1 (gridBytes k W H after)
   after-binary b = once-upto 1 (omega arith) erode k W H m g (view-upto 1 v C R g (outside-low k) (λ n l.
       let h : n < gridSize W H = omega (arith, mul-comm R C) in
       subst (λ x. x ≤ 1) (getD-any g n 0 v (omega (arith, r .read))) (b n h)))
@@ -148,7 +148,7 @@ module _ (erode : Bool) (k : Around) (W H m : ℕ) {g i : List ℕ} (r : StageRe
   pub plane-small : W ≤ 64 → H ≤ 64 → planeSize C R ≤ 974
   plane-small a b = plane-most 64 a b
 
-  pub one-ready : {p : List ℕ} → planeSize C R ≤ length p → AllMeasured W H g → PlanesReady 0 W H g p
+  pub one-ready : {p : List ℕ} → planeSize C R ≤ length p → GridMeasured W H g → PlanesReady 0 W H g p
   one-ready l b = record { few = omega arith; room = omega arith; one = λ _. b; two = λ n. absurd (n refl) }
 
   pub two-ready : {n : ℕ} {p : List ℕ} → planeSize C R ≤ n → n ≤ 65535 → n + n ≤ length p → PlanesReady n W H g p

@@ -19,14 +19,14 @@ pub record StageReady (W H : ℕ) (g i : List ℕ) : Type 0 where
   pub room : gridSize W H ≤ length i
 
 -- no byte of the grid is above 1: one plane has both levels of it
-abbrev pub AllMeasured : ℕ → ℕ → List ℕ → Type 0
-AllMeasured W H g = (k : ℕ) → k < gridSize W H → getD g k 0 ≤ full
+abbrev pub GridMeasured : ℕ → ℕ → List ℕ → Type 0
+GridMeasured W H g = (k : ℕ) → k < gridSize W H → getD g k 0 ≤ full
 
 -- bytes with room for a plane, and for a second from byte o on; where o is 0 there is one
 pub record PlanesReady (o W H : ℕ) (g p : List ℕ) : Type 0 where
   pub few : o ≤ 65535
   pub room : o + planeSize (W + 15) (H + 15) ≤ length p
-  pub one : o ≡ 0 → AllMeasured W H g
+  pub one : o ≡ 0 → GridMeasured W H g
   pub two : (o ≡ 0 → ⊥) → planeSize (W + 15) (H + 15) ≤ o
 
 -- one level of the grid was packed into d and taken through the stage into p

@@ -5,7 +5,7 @@ ghost use Prim.Native.Nat.{_+_, _≤_};
 ghost use lib.ListN.{length};
 ghost use Rattle.grids.specs.Grid.{once, written};
 ghost use Rattle.planes.specs.Planes.{planeSize};
-ghost use Rattle.frame_calls.specs.Staging.{StageReady, AllMeasured, PlanesReady, LevelTaken, SecondTaken, LevelsTaken};
+ghost use Rattle.frame_calls.specs.Staging.{StageReady, GridMeasured, PlanesReady, LevelTaken, SecondTaken, LevelsTaken};
 
 // One level of a grid through the stage of mask, both of the kind that around says: it is packed into a plane in the image that will be written, which has room
 // for it, and taken through the stage into a plane lent for that.
@@ -102,7 +102,7 @@ fn by_planes(
 
 // The same, with a plane of its own, as long as the longest: that of 255 columns and rows.
 fn large(from: &[u8], to: &mut [u8], w: usize, h: usize, mask: u16, around: Around, erode: bool)
-    requires { ⌜ StageReady w h (now from) (now to) × AllMeasured w h (now from) ⌝ }
+    requires { ⌜ StageReady w h (now from) (now to) × GridMeasured w h (now from) ⌝ }
     ensures { λ _. ⌜ now (to .exit) ≡ written w h (once erode around w h mask (now (from .entry))) (now (to .entry)) ⌝ }
 {
     let mut plane: [u8; 8740] = [0; 8740];
@@ -111,7 +111,7 @@ fn large(from: &[u8], to: &mut [u8], w: usize, h: usize, mask: u16, around: Arou
 
 // The same for frames of at most 64 columns and rows, whose planes are shorter, so that less is cleared.
 fn small(from: &[u8], to: &mut [u8], w: usize, h: usize, mask: u16, around: Around, erode: bool)
-    requires { ⌜ StageReady w h (now from) (now to) × AllMeasured w h (now from) × (w ≤ 64) × (h ≤ 64) ⌝ }
+    requires { ⌜ StageReady w h (now from) (now to) × GridMeasured w h (now from) × (w ≤ 64) × (h ≤ 64) ⌝ }
     ensures { λ _. ⌜ now (to .exit) ≡ written w h (once erode around w h mask (now (from .entry))) (now (to .entry)) ⌝ }
 {
     let mut plane: [u8; 974] = [0; 974];
@@ -162,7 +162,7 @@ pub(crate) fn by_one(
     around: Around,
     erode: bool,
 )
-    requires { ⌜ StageReady w h (now from) (now to) × AllMeasured w h (now from) ⌝ }
+    requires { ⌜ StageReady w h (now from) (now to) × GridMeasured w h (now from) ⌝ }
     ensures { λ _. ⌜ now (to .exit) ≡ written w h (once erode around w h mask (now (from .entry))) (now (to .entry)) ⌝ }
 {
     if w <= 64 {
