@@ -1,4 +1,6 @@
 // Loops over the cells of frames and grids, for ground 13 and the counts. They always run to the end, so that many cells are done at a time.
+#![tactic(auto)]
+
 ghost use Rattle.std.specs.Prelude.{◌≡◌, ◌≤◌, min, max, length, take};
 ghost use Rattle.grids.specs.Frame.{bad_cell};
 ghost use Rattle.cell_steps.specs.Leaves.{greatest_of, count_of, counts_of, times_of, Counted};

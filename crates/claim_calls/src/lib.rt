@@ -1,5 +1,7 @@
 // Demand 3 as one function: it plans a shape and runs one of the four operations on a frame with exactly the words that planning wrote. What it promises is one
 // statement, Claim in claim/specs/Whole, of its answer and of the part that `part_calls::part` hands back for it; and Lent there, of the work images.
+#![tactic(auto)]
+
 ghost use Rattle.words.specs.Ground.{stated};
 ghost use Rattle.cleaning.specs.Cleaning.{Cleaned};
 ghost use Rattle.claim.specs.Whole.{Claim, handed_for, Lent, Steps};

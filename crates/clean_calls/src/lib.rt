@@ -1,6 +1,8 @@
 // The four operations on a plan list, a frame and two work images: dilation, erosion, opening and closing. Each tries all grounds before it writes a byte,
 // packs the frame into a plane in the first image, or into two where a cell was not measured (`packing`), and runs the stages and cuts the result by
 // `result_steps`.
+#![tactic(auto)]
+
 mod packing;
 
 ghost use Rattle.std.specs.Prelude.{◌≡◌};

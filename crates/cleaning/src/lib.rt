@@ -1,4 +1,5 @@
 // The four operations on a frame and the part that is handed back: what they give and promise is in specs/.
+#![tactic(auto)]
 
 // The four operations.
 #[derive(Drop)]

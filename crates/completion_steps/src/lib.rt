@@ -2,6 +2,8 @@
 // may complete it. Both are one-sided: `false` says that none do, `true` promises nothing.
 // `node` and `stage` call each other: a node picks a number that is still needed and tries the masks that have it, and a stage opens the sum below.
 // It builds on pool_steps (the lists of a node) and path_steps (the partial sums).
+#![tactic(auto)]
+
 ghost use Rattle.std.specs.Prelude.{◌≡◌, true, false, ◌+◌, ◌≤◌, ◌<◌, length};
 ghost use Rattle.completions.specs.Completing.{NoneHere, NoneBefore, NoSum};
 ghost use Rattle.completions.specs.Opening.{Opened};

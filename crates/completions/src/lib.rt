@@ -1,6 +1,7 @@
 // The quick search: what its answers say and why they hold is in specs/ and proofs/; `pool_steps`, `path_steps` and `completion_steps` have its functions.
 // It is one-sided: that no masks complete a partial sum is said, that some do is not. Here are the values that its functions hand on.
 // It builds on rows (sums and residues of cells) and edges (the eighteen numbers of a mask).
+#![tactic(auto)]
 
 // A partial sum: the target, the residue target ⊖ sum, the masks of the sum, and the numbers that are needed still.
 #[derive(Drop)]

@@ -1,5 +1,7 @@
 // Columns and rows cut out of a source at a distance, on flat slices of bytes: cut. It goes row by row, and a row is at most three ranges. The value of
 // cells that the source does not have is the caller's. Cell x of a row is the source's x + a − 15, and so for rows with b.
+#![tactic(auto)]
+
 ghost use Rattle.std.specs.Prelude.{◌≡◌, ◌+◌, ◌*◌, ◌≤◌, length, get_or};
 ghost use Rattle.ranges.specs.Ranges.{over_front, Laid, Ranged};
 ghost use Rattle.cuts.specs.Cuts.{cut_out, Cut, shifted, seen};

@@ -1,5 +1,7 @@
 // The cut of columns and rows out of a source at a distance: definitions and laws, and in code whether columns, rows and images fit one another (sides_fit,
 // cut_fits), so that no product passes 32 bits and no index passes an image, and how far a row goes (edge). The cut itself is made by cut_steps.
+#![tactic(auto)]
+
 ghost use Rattle.std.specs.Prelude.{◌≡◌};
 ghost use Rattle.cuts.specs.Cuts.{sides_fit, cut_fits, Edge};
 

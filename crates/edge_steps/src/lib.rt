@@ -1,6 +1,8 @@
 // The eighteen numbers of rows, which add up under ⊕: numbers. A row's greatest value of a direction is at its first or at its last cell, so that two columns
 // of each row are enough; each number then puts the greatest values of three directions together. greatest_of and greatest_in are the greatest values
 // themselves, of rows and of one row, and first_in is a row's first column. What the numbers are, and what each function answers: specs/ of the crate edges.
+#![tactic(auto)]
+
 ghost use Rattle.std.specs.Prelude.{◌≡◌, ℕ, ◌+◌, ◌*◌, ◌≤◌, ◌<◌, get_or};
 ghost use Rattle.edges.specs.Numbers.{FirstFound, LastIn, Greater, Supported, Clipped, Topped, RowTops, Fits, Numbered};
 

@@ -1,5 +1,7 @@
 // A shape as one value, with methods that take it by value and return a new one: moved, joined, summed. The old shape can still be used.
 // from_window and window lead from the cells of a shape list to the value and back. What a shape is, and what its points are: specs/Standing.antt.
+#![tactic(auto)]
+
 ghost use Rattle.std.specs.Prelude.{◌≡◌, true, false, ◌++◌, map, ◌-◌, min};
 ghost use Rattle.plane.specs.Point.{◌+ᵖ◌};
 ghost use Rattle.masks.specs.Chain.{sums};

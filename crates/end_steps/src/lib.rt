@@ -1,4 +1,6 @@
 // Rows near an end of a frame, dilated: the part of it that they depend on goes through the plan's stages on planes of its own (`parts`).
+#![tactic(auto)]
+
 mod parts;
 
 ghost use Rattle.std.specs.Prelude.{◌≡◌, true, false};

@@ -1,5 +1,7 @@
 // The calls for Rust and C: one function for each, on plain numbers and slices (a pointer and a length). include/musqerpi.h declares them.
 // An answer is the result, or −N for refusal N; what it and the lent words are is said by the call that each stands for.
+#![tactic(auto)]
+
 ghost use Rattle.std.specs.Prelude.{◌%◌};
 ghost use Rattle.masks.specs.Mask.{NormalPosition};
 ghost use Rattle.shapes.specs.Calls.{Moved, Joined, Summed, TurnedBack};

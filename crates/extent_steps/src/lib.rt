@@ -1,5 +1,7 @@
 // How far rows reach: first_row, last_row, first_column and last_column are the least and the greatest with a cell, 16 where there is none; empty says that
 // there is none, and columns has the columns with a cell. What these are: specs/ of the crate extents.
+#![tactic(auto)]
+
 ghost use Rattle.std.specs.Prelude.{◌≡◌, true, false, ◌<◌};
 ghost use Rattle.rows.specs.Cells.{At, bit};
 ghost use Rattle.extents.specs.Extents.{NoCell, SomeCell, Columns, FirstOf, LastOf, row, column};

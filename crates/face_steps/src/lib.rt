@@ -1,6 +1,8 @@
 // Whether cells can be a sum of masks, by their faces: may_be_sum. It is one-sided: `false` says that no list of masks sums to the cells, `true` that each
 // face is one that a sum can have.
 // A face is looked at as a word: the rows that it has, or, of the first and the last row of the cells, the columns. What faces are: specs/ of the crate faces.
+#![tactic(auto)]
+
 ghost use Rattle.std.specs.Prelude.{◌≡◌, true, false, ℕ, ◌<◌, get_or};
 ghost use Rattle.rows.specs.Cells.{At};
 ghost use Rattle.faces.specs.Faces.{Shadow, Spaced, Fair, FairFaces, NeverSum};

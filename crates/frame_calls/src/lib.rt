@@ -1,4 +1,6 @@
 // The single stage from one image into another, in either kind of grid: all grounds are tried before the first byte is written.
+#![tactic(auto)]
+
 mod staging;
 
 ghost use Rattle.grids.specs.Grid.{Staged};

@@ -1,6 +1,8 @@
 // What refuses a frame, a work image or a single stage: the first of grounds 2, 3, 7 and 11 to 14 of document 01 that holds; Done(0) where none does.
 // `sizes` has the tests of sides and lengths, `stage` those of a single stage. The cells are looked at once, by `cell_steps`: the greatest number among them
 // decides ground 13, and tells the caller whether a cell was not measured.
+#![tactic(auto)]
+
 mod sizes;
 mod stage;
 

@@ -1,4 +1,6 @@
 // Frames and grids of cells: what they are, the single stage, and what the calls on them promise is in specs/.
+#![tactic(auto)]
+
 use words::Ground;
 
 // The two kinds of grid, by what is around the frame in it, and outside it.

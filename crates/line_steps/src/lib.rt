@@ -1,5 +1,7 @@
 // Reading lines of eight lower-case hexadecimal digits and a line feed, byte by byte: nothing is where a reading starts, read_some goes on with it.
 // What a reading stands for: `Held` of specs/Reader.antt in the crate text.
+#![tactic(auto)]
+
 ghost use Rattle.std.specs.Prelude.{◌≡◌, true, [], ◌∷◌, ◌+◌, min};
 ghost use Rattle.text.specs.Reader.{Held, Further, DigitOf, Updated};
 

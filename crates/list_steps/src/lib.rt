@@ -1,6 +1,8 @@
 // Words into rows of bits: read_anchor and read_rows find the anchor and the cells of a shape list, read_place and plan_rows the place and the sum of a plan
 // list. Any list is read, word by word through the reader: a word of another kind than its place calls for holds nothing, nor does the end.
 // What a list holds: specs/ of the crate lists.
+#![tactic(auto)]
+
 ghost use Rattle.std.specs.Prelude.{◌≡◌, get_or};
 ghost use Rattle.words.specs.Read.{word_of};
 ghost use Rattle.rows.specs.Cells.{Same, At};

@@ -1,4 +1,6 @@
 // The load of a frame, as a number of cells and in ten-thousandths: the frame's grounds first, then its occupied cells are counted.
+#![tactic(auto)]
+
 ghost use Rattle.std.specs.Prelude.{◌≡◌, ◌*◌, ◌/◌, ◌%◌, ◌≤◌, ◌<◌, length};
 ghost use Rattle.grids.specs.Frame.{LoadCounted};
 ghost use Rattle.grids.specs.Share.{Shared};

@@ -1,5 +1,7 @@
 // What the search starts with, by `pooled`: which masks can be in a list that sums to the cells at all, the same as a list, and a table of their numbers.
 // It builds on rows (sums and residues by a mask), stages (which masks are stages) and edges (the numbers of a mask).
+#![tactic(auto)]
+
 ghost use Rattle.std.specs.Prelude.{◌≡◌, ◌+◌, ◌<◌, length};
 ghost use Rattle.masks.specs.Mask.{stage as isStage};
 ghost use Rattle.rows.specs.Cells.{At};

@@ -1,4 +1,6 @@
 // Masks of the 3×3 square: normal_position. What a mask, a stage, a chain and a plan are is in specs/.
+#![tactic(auto)]
+
 ghost use Rattle.std.specs.Prelude.{◌≡◌, ◌*◌, ◌/◌, ◌%◌, ◌^◌, ◌<◌};
 ghost use Rattle.masks.specs.Mask.{has_column, column_shift, row_shift, NormalPosition};
 

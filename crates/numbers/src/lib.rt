@@ -1,5 +1,7 @@
 // The numbers that calls for other languages answer: an answer as one signed number, a share as a number and a remainder, and where the part is for the number
 // that an operation answered.
+#![tactic(auto)]
+
 ghost use Rattle.std.specs.Prelude.{◌≡◌, pos};
 ghost use Rattle.numbers.specs.Numbers.{signed_of, quotient_of, remainder_of, around_of, image_of, PartFound};
 

@@ -1,5 +1,7 @@
 // Printing, each a page by value: words_page has the lines of words, refused_page that of a refusal, unreadable_page the line for what cannot be read.
 // What a page holds: `Holds` of specs/Page.antt in the crate text.
+#![tactic(auto)]
+
 ghost use Rattle.std.specs.Prelude.{◌≡◌, [], ◌∷◌, ◌%◌, take};
 ghost use Rattle.planning.specs.Printer.{digit as Printer·digit, word_line, word_lines, refused_line, unreadable_line};
 ghost use Rattle.text.specs.Page.{Holds, Added};

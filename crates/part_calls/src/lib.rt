@@ -1,4 +1,6 @@
 // The part: the result of an operation, handed back as the first W × H bytes of one of the two work images. It refuses nothing.
+#![tactic(auto)]
+
 ghost use Rattle.std.specs.Prelude.{◌≡◌, cond, [], ◌*◌, ltb, length, take};
 ghost use Rattle.grids.specs.Frame.{bad_size};
 ghost use Rattle.cleaning.specs.Cleaning.{part as part_of};

@@ -1,5 +1,7 @@
 // Partial sums: `step` has the one below by a mask, or none where the mask is passed over; `finished` says whether one is the target; `replaced` finds a mask
 // that is in the place of another. It builds on pool_steps (what masks need), rows and extents.
+#![tactic(auto)]
+
 ghost use Rattle.std.specs.Prelude.{◌≡◌, true, false, ℕ, ◌≤◌, ◌<◌, length, get_or};
 ghost use Rattle.rows.specs.Cells.{Sum, Residue, At, AtMask, AtSum, CutTo, chosen};
 ghost use Rattle.completions.specs.Completing.{Differs, Replaces, Spans, Unmet, Stepped};

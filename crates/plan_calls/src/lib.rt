@@ -1,5 +1,7 @@
 // Planning on lists of words: a shape list in, the list of its shortest plan out, or the answer that no chain exists.
 // All grounds are tried, and the search is over, before the first word is written.
+#![tactic(auto)]
+
 ghost use Rattle.std.specs.Prelude.{◌≤◌, length};
 ghost use Rattle.planning.specs.Planning.{Planned};
 ghost use Rattle.rows.specs.Cells.{chosen};

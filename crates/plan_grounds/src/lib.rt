@@ -1,5 +1,7 @@
 // What refuses a plan list, head, place and then the stages: the first of grounds 1 to 3 and 5 to 8 that holds. No point is built: ground 8 is tried by
 // the stages' extents. The crate word_grounds has the tests of any list.
+#![tactic(auto)]
+
 ghost use Rattle.std.specs.Prelude.{◌≡◌, false, not, ◌≤◌, length, drop};
 ghost use Rattle.plane.specs.Lists.{any, any_next};
 ghost use Rattle.words.specs.Ground.{stated, refusal, first_of};

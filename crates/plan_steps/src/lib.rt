@@ -1,4 +1,6 @@
 // How far a plan's stages go, across or down, and how far its points reach up or down. No point is built.
+#![tactic(auto)]
+
 ghost use Rattle.std.specs.Prelude.{◌≡◌, ◌⊎◌, ◌+◌, ◌-◌, ◌≤◌, ◌<◌, length, drop};
 ghost use Rattle.plan_steps.specs.Extent.{extent_of, from15, reach_of};
 

@@ -119,6 +119,7 @@ no_bits n w = same_test (eqb (length (bits n w)) 0) (eqb (w % 2 ^ n) 0) to from
     none (x ∷ xs) h = absurd (h x (inl refl))
 
     some : (xs : List ℕ) (x : ℕ) → length xs ≡ 0 → In xs x → ⊥
+    some [] x e h = elim h [ ]
     some (y ∷ xs) x e h = omega arith
 
     to : T (eqb (length (bits n w)) 0) → T (eqb (w % 2 ^ n) 0)

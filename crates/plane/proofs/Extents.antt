@@ -33,6 +33,7 @@ record Firsts (R : ℤ → ℤ → Type 0) (f : List ℤ → ℤ) : Type 0 where
 -- then it gives a member that stands before all
 module _ {R : ℤ → ℤ → Type 0} {f : List ℤ → ℤ} (F : Firsts R f) where
   first_in : (zs : List ℤ) (z : ℤ) → In zs z → In zs (f zs)
+  first_in [] z h = elim h [ ]
   first_in (y ∷ []) z h = inl (F.one y)
   first_in (y ∷ x ∷ zs) z h = pick (first_in (x ∷ zs) x (inl refl)) (F.more y x zs).0
     where
@@ -41,6 +42,8 @@ module _ {R : ℤ → ℤ → Type 0} {f : List ℤ → ℤ} (F : Firsts R f) wh
       pick k (inr e) = inr (subst (In (x ∷ zs)) (sym e) k)
 
   first_before : (zs : List ℤ) (z : ℤ) → In zs z → R (f zs) z
+  first_before [] z h = elim h [ ]
+  first_before (y ∷ []) z (inr h) = elim h [ ]
   first_before (y ∷ []) z (inl e) = subst (R (f (y ∷ []))) (F.one y ∙ sym e) (F.same (f (y ∷ [])))
   first_before (y ∷ x ∷ zs) z (inl e) = subst (R (f (y ∷ x ∷ zs))) (sym e) (F.more y x zs).1
   first_before (y ∷ x ∷ zs) z (inr h) = F.over (f (y ∷ x ∷ zs)) (f (x ∷ zs)) z (F.more y x zs).2 (first_before (x ∷ zs) z h)

@@ -1,4 +1,6 @@
 // One level of eight rows of cells put into a row of bytes, a row to a bit: eight_rows.
+#![tactic(auto)]
+
 mod columns;
 
 ghost use Rattle.std.specs.Prelude.{◌≡◌};

@@ -1,4 +1,6 @@
 // One level of rows of cells put into a row of bytes, a row to a bit: group, up to eight rows, and top, one row into the highest bit.
+#![tactic(auto)]
+
 ghost use Rattle.std.specs.Prelude.{◌≡◌, ℕ, ◌*◌, ◌<◌, ◌≤◌, length, get_or};
 ghost use Rattle.rows.specs.Cells.{bit};
 ghost use Rattle.planes.specs.Bytes.{Bitted};

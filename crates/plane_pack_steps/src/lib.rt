@@ -1,4 +1,6 @@
 // One level of a frame packed into a plane, eight rows at a time: pack.
+#![tactic(auto)]
+
 ghost use Rattle.std.specs.Prelude.{◌≡◌, ◌+◌, ◌*◌, ◌≤◌, min, leb, length};
 ghost use Rattle.planes.specs.Planes.{place_of, pack_fits, FramePacked, Packed};
 ghost use Rattle.plane_pack_steps.specs.Packing.{GroupPut, LeadPut, Packable, lead_of, Until};

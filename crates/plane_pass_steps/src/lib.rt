@@ -1,5 +1,7 @@
 // Passes over the bytes of a plane, one loop each: level reads a mask's row 0, join its row 1 or 2. Bytes are read at a distance and not from a part lent for
 // each, so that one slice serves all columns of a mask's row.
+#![tactic(auto)]
+
 mod bytes;
 mod passes;
 

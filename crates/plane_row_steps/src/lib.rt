@@ -1,4 +1,6 @@
 // A mask's three rows, each a pass over the bytes of a plane that begin at its first cell: rows.
+#![tactic(auto)]
+
 mod columns;
 
 ghost use Rattle.std.specs.Prelude.{◌≡◌, ◌+◌, ◌*◌, ◌≤◌, length};

@@ -1,5 +1,7 @@
 // The stage on planes (stage): a mask's rows, each a pass over all bytes of the plane, and then the value outside again wherever the plane has no cell of the
 // picture. So the next stage finds it there, and no pass has a case for an edge.
+#![tactic(auto)]
+
 mod bounds;
 
 ghost use Rattle.std.specs.Prelude.{◌≡◌, ◌<◌, ◌≤◌, length};

@@ -1,5 +1,7 @@
 // Columns and rows cut out of a plane, or of two that have both levels, at a distance, a byte a cell: unpack. Cell (x, y) becomes the planes' (x + a − 15,
 // y + b − 15).
+#![tactic(auto)]
+
 mod lines;
 
 ghost use Rattle.std.specs.Prelude.{◌≡◌};

@@ -1,5 +1,7 @@
 // Bit planes: definitions and laws, which sides a plane may have (sides), and the bit that a level of a cell is (level_bit). What is done with planes is in
 // plane_pack_steps, plane_stage_steps and plane_unpack_steps.
+#![tactic(auto)]
+
 ghost use Rattle.std.specs.Prelude.{◌≡◌, true, ◌<◌};
 ghost use Rattle.planes.specs.Bits.{level_bit};
 ghost use Rattle.planes.specs.Planes.{plane_sides};

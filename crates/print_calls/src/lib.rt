@@ -1,4 +1,6 @@
 // What the program `shapeplan` prints for what it reads: planning between reading and printing of text. No input and no output.
+#![tactic(auto)]
+
 ghost use Rattle.std.specs.Prelude.{◌≤◌, take};
 ghost use Rattle.planning.specs.Printer.{Printed, PrintedFor};
 ghost use Rattle.text.specs.Page.{Blank};

@@ -1,4 +1,6 @@
 // Putting a frame into a grid of either kind: all grounds are tried before the first byte is written.
+#![tactic(auto)]
+
 ghost use Rattle.std.specs.Prelude.{◌≡◌, ◌-◌};
 ghost use Rattle.grids.specs.Grid.{outside_of, start_of, FramePut};
 

@@ -1,4 +1,6 @@
 // Ranges of bytes: a part of an image filled with one value, or with the cells of another.
+#![tactic(auto)]
+
 ghost use Rattle.std.specs.Prelude.{◌≡◌, min, length, get_or};
 ghost use Rattle.ranges.specs.Ranges.{Ranged};
 

@@ -1,5 +1,7 @@
 // The reader of a list, which stands on the caller's words and makes no copy; and what it does, as functions on plain words and a position.
 // Callers with a plain slice use `read_at`: their proofs need nothing of the struct.
+#![tactic(auto)]
+
 ghost use Rattle.std.specs.Prelude.{◌≡◌};
 ghost use Rattle.readers.specs.Cursor.{item_at, left_at, after};
 

@@ -1,5 +1,7 @@
 // An operation's result, on a frame that is packed into a plane in the first of two work images, or into two that have both levels of it: the stages are run
 // (`levels`), and the result is cut from the last plane, or planes, into the other image (`results`).
+#![tactic(auto)]
+
 mod levels;
 mod results;
 

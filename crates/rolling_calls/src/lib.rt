@@ -1,5 +1,7 @@
 // A row arrives in the live frame, and the dilated frame kept beside it is brought up to date: its rows are moved as the live frame's are, and those that
 // lie no farther from an end than the plan's points reach are worked out anew (end_steps) from the rows of the live frame near them.
+#![tactic(auto)]
+
 ghost use Rattle.std.specs.Prelude.{◌≡◌, min};
 ghost use Rattle.rolling.specs.Ends.{EndPut};
 ghost use Rattle.rolling.specs.Rolling.{Arrived};

@@ -1,5 +1,7 @@
 // What refuses an arriving row: the first of grounds 1 to 3 and 5 to 8 of the plan, 11, 12 over the live and the kept frame, 15, and 13 over both frames and
 // the row that holds; Done(0) where none does.
+#![tactic(auto)]
+
 ghost use Rattle.std.specs.Prelude.{◌≡◌, false, ◌||◌};
 ghost use Rattle.words.specs.Ground.{stated, refusal, first_of};
 ghost use Rattle.grids.specs.Frame.{bad_size, wrong_length, bad_cell};

@@ -1,4 +1,6 @@
 // What an arriving row moves: the rows of a frame. What is read and what is written overlap, so they go by way of an array of its own, a chunk at a time.
+#![tactic(auto)]
+
 ghost use Rattle.std.specs.Prelude.{◌≡◌, ◌+◌, ◌-◌, ◌≤◌, ◌<◌, length, get_or};
 ghost use Rattle.ranges.specs.Ranges.{Ranged};
 ghost use Rattle.rolling.specs.Rolling.{rolled};

@@ -1,5 +1,7 @@
 // Rows of cells, [u16; 16], made and compared: same tests rows; mask_rows makes those of a mask, and lowered moves rows back by a distance.
 // What rows stand for, and what each answers: specs/ of the crate rows. Sums of rows are in the crate row_sum_steps; ⊕ and ⊖ by a mask are in mask_steps.
+#![tactic(auto)]
+
 ghost use Rattle.std.specs.Prelude.{◌≡◌, true, false, ◌<◌, ◌%◌};
 ghost use Rattle.rows.specs.Cells.{Same, At, AtMask};
 ghost use Rattle.rows.specs.Leaves.{Under, Lowered};

@@ -1,5 +1,7 @@
 // Rows of cells, [u16; 16], put onto one another: sum_of is ⊕ cut to the window; joined has the cells of both, and raised moves rows by a distance.
 // What rows stand for, and what each answers: specs/ of the crate rows. Rows are compared, and moved back, by the crate row_steps.
+#![tactic(auto)]
+
 ghost use Rattle.std.specs.Prelude.{◌≡◌, true, false, ◌<◌, ◌%◌};
 ghost use Rattle.rows.specs.Cells.{Same, At, bit};
 ghost use Rattle.rows.specs.Leaves.{Onto, SumOf, RowSum, Either, Raised};

@@ -1,5 +1,6 @@
 // The search for the fewest stages: what it answers, and why that follows from the answers below it, is in specs/ and proofs/; `mark_steps` and `search_steps`
 // have its functions. It builds on completions, the quick search, which it asks on the way down.
+#![tactic(auto)]
 
 // What the search starts with: a mark for each mask, the n marked masks as a list, and a table with eighteen numbers for each mask.
 #[derive(Drop)]

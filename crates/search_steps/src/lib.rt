@@ -1,6 +1,8 @@
 // The search for the fewest stages: `shortest` answers for any set of cells the plan that document 01 picks, or that there is none.
 // `node` and `stage` call each other: a partial sum tries each stage, and each stage tried opens the sum below it. Before a sum is opened the quick search is
 // asked whether anything can complete it. It builds on mark_steps (what the search starts with), completion_steps and path_steps, edges, extents and faces.
+#![tactic(auto)]
+
 ghost use Rattle.std.specs.Prelude.{◌≡◌, true, false, ◌+◌, ◌≤◌, ◌<◌, max, ◌/◌, T, ltb, get_or};
 ghost use Rattle.masks.specs.Mask.{stage as isStage};
 ghost use Rattle.rows.specs.Cells.{At, AtOrigin};

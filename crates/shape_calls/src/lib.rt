@@ -1,5 +1,7 @@
 // The calls on lists of words that write a shape list: moving, joining and summing shapes, and turning a plan back into a shape.
 // Each first tries the grounds of the lists that it reads, then makes the new shape, and then tries grounds 8 and 9 before it writes a word.
+#![tactic(auto)]
+
 ghost use Rattle.std.specs.Prelude.{◌≡◌};
 ghost use Rattle.words.specs.Ground.{first_of};
 ghost use Rattle.shapes.specs.Plan.{plan_points, plan_tests};

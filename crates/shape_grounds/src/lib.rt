@@ -1,5 +1,7 @@
 // What refuses a shape list or two: the first of grounds 1 to 4 of document 01 that holds; Done(0) where none does.
 // `shape` has the tests of a shape list, `pair` those of two; the crate word_grounds has those of any list. None builds a point.
+#![tactic(auto)]
+
 mod pair;
 mod shape;
 

@@ -1,5 +1,7 @@
 // The program `shapeplan`: reads the words of a shape list from standard input, a line each, and prints its plan, or the refusal, or `unreadable`.
 // What it prints for what it reads is proved of print_calls::page; here is only the reading of the input to its end and the writing of the page.
+#![tactic(auto)]
+
 ghost use Rattle.std.specs.Prelude.{◌≤◌};
 
 use libc::{STDIN_FILENO, STDOUT_FILENO};

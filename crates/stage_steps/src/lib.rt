@@ -1,4 +1,6 @@
 // Stages by arithmetic on the mask, with no list of its cells: whether a mask is one, and how far it goes from 0.
+#![tactic(auto)]
+
 ghost use Rattle.std.specs.Prelude.{◌≡◌};
 ghost use Rattle.masks.specs.Mask.{stage};
 ghost use Rattle.stage_steps.specs.Reach.{reach};

@@ -1,5 +1,6 @@
 // Text of the program `shapeplan`: what has been read of lines of words, and a page of lines. What they stand for is in specs/; lines are read in the crate
 // line_steps, and pages made in page_steps. No input, no output, no planning.
+#![tactic(auto)]
 
 // What has been read: whether some line was bad; how many words, counted to 18, and the words; the digits of the line begun and their value.
 #[derive(Drop)]

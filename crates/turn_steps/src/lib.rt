@@ -1,4 +1,6 @@
 // The stages of an operation, run one after the other on a frame that is packed into a plane in the first of two work images, which take turns (`turns`).
+#![tactic(auto)]
+
 mod turns;
 
 ghost use Rattle.std.specs.Prelude.{◌≡◌, true, false};

@@ -1,5 +1,7 @@
 // Grounds 1, 2 and 3 of document 01 over the words of any list: wrong_length, wrong_kind and extra_bit each say whether the ground holds.
 // What a word's kind is: specs/ of the crate words; what length a list may have: specs/ of the crate shapes. No point is built.
+#![tactic(auto)]
+
 ghost use Rattle.std.specs.Prelude.{◌≡◌, drop};
 ghost use Rattle.plane.specs.Lists.{any};
 ghost use Rattle.words.specs.Word.{wrong_kind};

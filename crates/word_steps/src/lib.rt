@@ -1,4 +1,6 @@
 // Rows of bits into words: write_list writes the shape list of an anchor and rows. What its words are: specs/ of the crate lists.
+#![tactic(auto)]
+
 ghost use Rattle.lists.specs.Held.{shape_words, WordsWritten};
 
 // Writes the shape list of an anchor and rows, where there is room for the longest, and answers its length.

@@ -1,4 +1,6 @@
 // What a word says, by its kind, and what a call answers: a result, or the ground that refuses it. The layout of words is in specs/Word.antt.
+#![tactic(auto)]
+
 ghost use Rattle.std.specs.Prelude.{◌≡◌};
 ghost use Rattle.words.specs.Ground.{number_of, Tried};
 ghost use Rattle.words.specs.Read.{word_of};
