@@ -108,9 +108,11 @@ def main(argv):
             text = f.read()
         if path.endswith(".edit"):
             target = re.search(r"(?m)^file: (\S+)", text)[1]
-            new = turned(text, names, target.endswith(".antt"))
+            antt = target.endswith(".antt")
         else:
-            new = turned(text, names, path.endswith(".antt"))
+            antt = path.endswith(".antt")
+        # a function of src/ may have the name of such a lemma, and keeps it
+        new = turned(text, names if antt else {a: b for a, b in names.items() if a not in LEMMAS}, antt)
         if new != text:
             with open(path, "w", encoding="utf-8", newline="") as f:
                 f.write(new)

@@ -2,7 +2,7 @@
 #![tactic(auto)]
 
 // The four operations.
-#[derive(Drop)]
+#[derive(Clone, Copy)]
 pub enum Operation {
     Dilation,
     Erosion,

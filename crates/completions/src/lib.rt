@@ -4,7 +4,7 @@
 #![tactic(auto)]
 
 // A partial sum: the target, the residue target ⊖ sum, the masks of the sum, and the numbers that are needed still.
-#[derive(Drop)]
+#[derive(Clone, Copy)]
 pub struct Here {
     pub target: [u16; 16],
     pub rest: [u16; 16],

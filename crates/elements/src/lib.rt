@@ -10,7 +10,7 @@ ghost use Rattle.extents.specs.Extents.{SomeCell};
 ghost use Rattle.elements.specs.Standing.{points_of, window_points, Sound, no_shape, Made, Along, Within, Anchored, InWindow};
 
 // The cells stand in rows with one in column 0 and one in row 0; their (0, 0) is the point (x − 15, y − 15). fits is false of what is out of range.
-#[derive(Drop)]
+#[derive(Clone, Copy)]
 pub struct Shape {
     pub fits: bool,
     pub x: u32,

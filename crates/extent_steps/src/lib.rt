@@ -30,7 +30,7 @@ pub fn first_row(a: [u16; 16]) -> usize
 }
 
 // The greatest row of a with a cell; 16 where there is none.
-pub fn last_row_lem(a: [u16; 16]) -> usize
+pub fn last_row(a: [u16; 16]) -> usize
     ensures { LastOf row (At a) result }
 {
     let mut last = 16;

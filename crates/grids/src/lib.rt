@@ -4,7 +4,7 @@
 use words::Ground;
 
 // The two kinds of grid, by what is around the frame in it, and outside it.
-#[derive(Drop)]
+#[derive(Clone, Copy)]
 pub enum Around {
     Free,
     Occupied,

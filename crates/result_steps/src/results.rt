@@ -37,7 +37,7 @@ fn beyond(op: Operation) -> u8
 }
 
 // Where the second plane starts.
-fn second_at_lem(w: usize, h: usize, two: bool) -> usize
+fn second_at(w: usize, h: usize, two: bool) -> usize
     requires { bad_size w h ≡ false }
     ensures { result ≡ second_at two (w + 15) (h + 15) }
 {
@@ -64,7 +64,7 @@ pub(crate) fn cut(
     let a = ahead(op, place % 256);
     let b = ahead(op, place / 256 % 256);
     let v = beyond(op);
-    let o = second_at_lem(w, h, two);
+    let o = second_at(w, h, two);
     if t % 2 == 0 {
         plane_unpack_steps::unpack(first, second, w, h, w + 15, h + 15, a, b, v, o);
         return;

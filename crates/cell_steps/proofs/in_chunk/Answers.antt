@@ -1,0 +1,30 @@
+use borrow.Author.Rules.{rules}
+use mathlib.Core.Path.{◌≡◌}
+use Prim.Native.Nat.{◌+◌, ◌-◌, ◌≤◌}
+use native.Mathlib.Omega.{arith}
+use lib.ListN.{length, drop}
+use Rattle.cell_steps.specs.Leaves.{counts_of}
+use Rattle.cell_steps.proofs.Loops.{counts_one, counts_none}
+use Rattle.cell_steps.proofs.in_chunk.Goals as goal
+
+-- TODO no goal for overflow-add-n
+add-n : goal.Need-overflow-add-n
+add-n c = omega arith
+
+pub loop-j-init : goal.loop-j-init
+loop-j-init c = (omega arith, omega arith)
+
+pub loop-j-preserved : goal.loop-j-preserved
+loop-j-preserved c =
+    let h = c.loop-j in
+    let cells = c.args.cells.now in
+    let o = counts_one c.args.v cells h.j (omega arith) in
+    let e = c.count-n.ensures.0 in
+    (omega arith, omega arith)
+
+pub returns : goal.returns
+returns c =
+    let h = c.loop-j in
+    let cells = c.args.cells.now in
+    let z = counts_none c.args.v cells h.j c.loop-j-test.false in
+    omega arith

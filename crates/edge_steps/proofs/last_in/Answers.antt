@@ -1,0 +1,13 @@
+-- The zeros above the highest bit, taken from 15, are the column of the last cell.
+use Rattle.edges.proofs.Columns.{last_of}
+use Prim.Native.Nat.{◌<◌}
+use native.Mathlib.Omega.{arith}
+use borrow.Author.Rules.{rules}
+use Rattle.edge_steps.proofs.last_in.Goals as goal
+
+-- TODO no goal for overflow-sub-result
+sub-result : goal.Need-overflow-sub-result
+sub-result c = let l : c.args.row < 65536 = omega arith in omega (arith, (last_of c.args.row c.requires l).0)
+
+pub returns : goal.returns
+returns c = (last_of c.args.row c.requires (omega arith)).1

@@ -1,0 +1,96 @@
+use mathlib.Core.Path.{◌≡◌, refl, ◌∙◌}
+use Prim.Native.Nat.{ℕ, ◌+◌, ◌*◌, ◌≤◌, ◌<◌, ◌-◌}
+use lib.ListN.{length, get_or, length-set}
+use Rattle.rows.proofs.Known.{rows16}
+use Rattle.edges.specs.Edges.{first_direction, second_direction, middle_of, times_of}
+use Rattle.edges.proofs.Directions.{inside}
+use Rattle.edges.proofs.Storing.{stored}
+use Rattle.edges.proofs.Greatest.{fits, numbered_none, numbered_all}
+use borrow.Author.Rules.{rules}
+use native.Mathlib.Omega.{arith}
+use Rattle.edge_steps.proofs.numbers.Goals as goal
+
+-- TODO no goal for overflow-cast-number
+cast-number : goal.Need-overflow-cast-number
+unfolding first_direction second_direction middle_of times_of
+cast-number c = let k = inside c.loop-i.i (omega arith) in search rules
+
+-- TODO no goal for overflow-mul-number
+mul-number : goal.Need-overflow-mul-number
+unfolding first_direction second_direction middle_of times_of
+mul-number c = let k = inside c.loop-i.i (omega arith) in search rules
+
+-- TODO no goal for overflow-cast-number-2
+cast-number-2 : goal.Need-overflow-cast-number-2
+unfolding first_direction second_direction middle_of times_of
+cast-number-2 c = let k = inside c.loop-i.i (omega arith) in search rules
+
+-- TODO no goal for overflow-mul-number-2
+mul-number-2 : goal.Need-overflow-mul-number-2
+unfolding first_direction second_direction middle_of times_of
+mul-number-2 c = let k = inside c.loop-i.i (omega arith) in search rules
+
+-- TODO no goal for overflow-cast-number-3
+cast-number-3 : goal.Need-overflow-cast-number-3
+unfolding first_direction second_direction middle_of times_of
+cast-number-3 c = let k = inside c.loop-i.i (omega arith) in search rules
+
+-- TODO no goal for overflow-mul-number-3
+mul-number-3 : goal.Need-overflow-mul-number-3
+unfolding first_direction second_direction middle_of times_of
+mul-number-3 c = let k = inside c.loop-i.i (omega arith) in search rules
+
+pub returns-then-s-eq0 : goal.returns-then-s-eq0
+returns-then-s-eq0 c =
+    let st = c in
+    let cells = st.args.cells in
+    numbered_none cells (rows16 cells _ st.well-formed.0) _ _ c.clipped.ensures c.tops-s.result c.tops-s.ensures
+    c.if-s-eq0.true
+
+pub loop-i-init : goal.loop-i-init
+loop-i-init c = (omega arith, (refl, λ k l. absurd (omega arith)))
+
+pub bounds-s-first : goal.bounds-s-first
+unfolding first_direction second_direction middle_of times_of
+bounds-s-first c = let k = inside c.loop-i.i (omega arith) in search rules
+
+pub bounds-s-second : goal.bounds-s-second
+unfolding first_direction second_direction middle_of times_of
+bounds-s-second c = let k = inside c.loop-i.i (omega arith) in search rules
+
+pub bounds-s-middle : goal.bounds-s-middle
+unfolding first_direction second_direction middle_of times_of
+bounds-s-middle c = let k = inside c.loop-i.i (omega arith) in search rules
+
+pub number-v-requires : goal.number-v-requires
+unfolding first_direction second_direction middle_of times_of
+number-v-requires c =
+    let e = c in
+    let st = e in
+    let cells = st.args.cells in
+    fits cells (rows16 cells _ st.well-formed.0) _ e.tops-s.result e.tops-s.ensures e.if-s-eq0.false c.loop-i.i (omega arith)
+
+pub loop-i-preserved : goal.loop-i-preserved
+unfolding first_direction second_direction middle_of times_of
+loop-i-preserved c =
+    let h = c.loop-i in
+    let s = c.tops-s.result in
+    let v = c.number-v.result in (
+      omega arith,
+      (
+        length-set h.r h.i v ∙ h.invariant.1.0,
+        stored (λ k q. q + (times_of k * get_or s (middle_of k) 0 + 128) ≡ get_or s (first_direction k) 0 + get_or s (second_direction k) 0 + times_of k * 64) h.r
+            h.i v (omega (arith, h.invariant.1.0))
+            h.invariant.1.1 c.number-v.ensures,
+      ),
+    )
+
+pub returns : goal.returns
+returns c =
+    let h = c.loop-i in
+    let e = c in
+    let st = e in
+    let cells = st.args.cells in
+    numbered_all cells (rows16 cells _ st.well-formed.0) _ _ e.clipped.ensures e.tops-s.result e.tops-s.ensures
+    e.if-s-eq0.false h.r
+    (λ i l. h.invariant.1.1 i (omega arith))

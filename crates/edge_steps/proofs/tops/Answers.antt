@@ -1,0 +1,46 @@
+use mathlib.Core.List.{List}
+use Rattle.rows.proofs.Sums.{zero_at}
+use mathlib.Core.Path.{◌≡◌, sym, subst}
+use mathlib.Core.Logic.{⊎_elim}
+use Prim.Native.Nat.{ℕ, ◌+◌, ◌≤◌, ◌<◌, ◌-◌}
+use lib.ListN.{get_or}
+use Rattle.rows.proofs.Known.{rows16}
+use Rattle.rows.proofs.RowBits.{bit_in}
+use Rattle.edges.specs.Numbers.{Topped}
+use Rattle.edges.proofs.Greatest.{topped_none, topped_skip, topped_row}
+use borrow.Author.Rules.{rules}
+use native.Mathlib.Omega.{arith}
+use Rattle.edge_steps.proofs.tops.Goals as goal
+
+pub loop-y-init : goal.loop-y-init
+loop-y-init c = (omega arith, λ i l. subst (Topped i c.args.cells 0) (sym (zero_at 16 i)) (topped_none i c.args.cells))
+
+pub raised-next-requires : goal.raised-next-requires
+raised-next-requires c =
+    let at-loop = c in
+    let y = at-loop.loop-y.y in
+    let words = (rows16 at-loop.args.cells _ at-loop.well-formed.0).words y in (
+      omega (arith, bit_in 16 _ _ words (c.first_in.ensures.some (omega arith)).cell),
+      (omega (arith, bit_in 16 _ _ words c.last_in.ensures.cell), omega arith),
+    )
+
+pub loop-y-preserved : goal.loop-y-preserved
+loop-y-preserved c =
+    let h = c.loop-y in
+    let cells = c.args.cells in
+    let y = h.y in
+    ⊎_elim
+    (λ w. (
+      omega arith,
+      λ i l. subst (λ (s : List ℕ). Topped i cells (y + 1) (get_or s i 0)) (sym w.4)
+          (topped_row i cells l y _ _ (w.1.ensures.some (omega (arith, w.0))) w.2.ensures _ _ (h.invariant.1 i l) (w.3.ensures i l)),
+    ))
+    (λ w. (omega arith, λ i l. subst (λ (s : List ℕ). Topped i cells (y + 1) (get_or s i 0)) (sym w.1) (topped_skip i cells y _ w.0.left (h.invariant.1 i l))))
+    c.if-row-ne0.branch
+
+pub returns : goal.returns
+returns c =
+    let h = c.loop-y in
+    let st = c in
+    let e : h.y ≡ st.args.n = omega arith in
+    λ i l. subst (λ (k : ℕ). Topped i st.args.cells k (get_or h.s i 0)) e (h.invariant.1 i l)

@@ -1,0 +1,15 @@
+-- The invariant: the columns with a cell are `first` or after it. The measure: the columns left.
+use borrow.Author.Rules.{rules}
+use native.Mathlib.Omega.{arith}
+use Prim.Native.Nat.{◌≤◌, ◌-◌}
+use mathlib.Core.Path.{refl}
+use Rattle.rows.proofs.Known.{rows16}
+use Rattle.extents.proofs.Search.{AtWord, From, from_none, from_more, from_found, from_done, word_clear, word_in_lem, first_column_of}
+use Rattle.extents.specs.Extents.{column}
+use Rattle.extent_steps.proofs.first_column.Given as goal
+
+abbrev pub invariant-loop-first : goal.invariant-loop-first
+invariant-loop-first l = (l.first ≤ 16) × From column (AtWord l.c) l.first
+
+abbrev pub decreases-loop-first : goal.decreases-loop-first
+decreases-loop-first l = 16 - l.first

@@ -1,0 +1,28 @@
+use mathlib.Core.Bool.{true≢false, false≢true}
+use Prim.Native.Nat.{ℕ, ◌≤◌, ◌<◌, ◌-◌}
+use borrow.Author.Count.{below_more}
+use borrow.Author.Tests.{not-true, not-false}
+use lib.ListN.{get_or}
+use Rattle.faces.specs.Faces.{only_of, Fair}
+use Rattle.faces.specs.Bits.{Bits}
+use borrow.Author.Rules.{rules}
+use native.Mathlib.Omega.{arith}
+use Rattle.face_steps.proofs.all_fair.Goals as goal
+
+pub loop-i-init : goal.loop-i-init
+loop-i-init c = (omega arith, λ k l. absurd (omega arith))
+
+pub returns-then-not-fair : goal.returns-then-not-fair
+unfolding only_of
+returns-then-not-fair c =
+    let i = c.loop-i.i in
+    (λ e. absurd (false≢true e), λ e. record { i = i; inside = omega arith; never = c.fair.ensures.1 (not-true _ c.if-not-fair.true) })
+
+pub loop-i-preserved : goal.loop-i-preserved
+unfolding only_of
+loop-i-preserved c =
+    let h = c.loop-i in
+    (omega arith, below_more _ h.i h.invariant.1 (c.fair.ensures.0 (not-false _ c.if-not-fair.false)))
+
+pub returns : goal.returns
+returns c = (λ e. record { fair = λ i l. c.loop-i.invariant.1 i (omega arith) }, λ e. absurd (true≢false e))

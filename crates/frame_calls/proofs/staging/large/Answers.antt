@@ -1,0 +1,11 @@
+-- The bytes lent have room.
+use Rattle.grids.specs.declared.Around.TheVariants.{Free}
+use Rattle.frame_calls.proofs.Stages.{plane_large, one_ready}
+use borrow.Author.Rules.{rules}
+use Rattle.frame_calls.proofs.staging.large.Goals as goal
+
+pub by_planes-requires : goal.by_planes-requires
+by_planes-requires c =
+    let st = c in
+    let x = st.args in
+    (st.requires.0, one_ready x.erode Free x.w x.h x.mask st.requires.0 (plane_large x.erode Free x.w x.h x.mask st.requires.0) st.requires.1)

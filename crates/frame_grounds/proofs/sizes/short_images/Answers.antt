@@ -1,0 +1,18 @@
+-- One image, then the other.
+use borrow.Author.Rules.{rules}
+use mathlib.Core.Path.{sym, ◌∙◌}
+use Rattle.plane.proofs.Tests.{or_first, or_rest}
+use Rattle.grids.specs.Frame.{short_image}
+use Rattle.frame_grounds.proofs.sizes.short_images.Goals as goal
+
+pub returns-then-short_image : goal.returns-then-short_image
+returns-then-short_image c z =
+    let a = c.before.before.before.before.args in
+    let e = sym (c.before.short-image.ensures z) ∙ c.if1.true in
+    sym (or_first (short_image a.w a.h a.first.now) (short_image a.w a.h a.second.now) e)
+
+pub returns : goal.returns
+returns c z =
+    let a = c.before.before.before.before.before.args in
+    let e = sym (c.before.before.short-image.ensures z) ∙ c.before.if1.false in
+    c.short-image2.ensures z ∙ sym (or_rest (short_image a.w a.h a.first.now) (short_image a.w a.h a.second.now) e)

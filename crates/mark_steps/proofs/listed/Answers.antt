@@ -1,0 +1,34 @@
+use mathlib.Core.Path.{refl, sym, subst}
+use mathlib.Core.Logic.{⊎_elim}
+use Prim.Native.Nat.{ℕ, ◌+◌, ◌≤◌, ◌-◌}
+use lib.Dec.{eqb→eq}
+use lib.ListN.{set}
+use Rattle.plane.proofs.Tests.{eq_eqb}
+use Rattle.search.specs.Asking.{Drawn}
+use Rattle.search.proofs.Asked.{drawn_none, drawn_more, drawn_skip}
+use borrow.Author.Rules.{rules}
+use native.Mathlib.Omega.{arith}
+use Rattle.mark_steps.proofs.listed.Goals as goal
+
+pub loop-m-init : goal.loop-m-init
+loop-m-init c = (omega arith, drawn_none _ _ refl)
+
+pub loop-m-preserved : goal.loop-m-preserved
+loop-m-preserved c =
+    let st = c in
+    let l = st.loop-m in
+    let marks = st.args.marks.now in (
+      omega arith,
+      ⊎_elim
+          (λ w. subst (λ (k : ℕ). Drawn marks (l.m + 1) (set l.list l.n l.m) k) (sym w.1)
+          (drawn_more marks l.list l.n l.m (omega arith) l.invariant.1 (eq_eqb w.0.taken)))
+          (λ w. subst (λ (k : ℕ). Drawn marks (l.m + 1) (set l.list l.n l.m) k) (sym w.1)
+          (drawn_skip marks l.list l.n l.m (omega arith) l.invariant.1 (λ t. w.0.left (eqb→eq _ _ t))))
+          c.if-marks-m-eq1.branch,
+    )
+
+pub returns : goal.returns
+returns c =
+    let h = c.loop-m.invariant.1 in
+    let few = h.few in
+    record { few = omega arith; long = h.long; all = λ s b t. h.all s (omega arith) t; only = h.only }

@@ -1,0 +1,25 @@
+-- A quotient is its own number, and the remainder is written beside it; a refusal is its number taken from 0, and writes nothing.
+use mir.Syntax.{w64}
+use mir.ValLaws.{to_z_pos}
+use mathlib.Core.Path.{ap, sym, ◌∙◌}
+use native.Mathlib.Omega.{arith}
+use borrow.Author.Rules.{rules}
+use Rattle.numbers.proofs.Signs.{negated_fits, negated_is}
+use Rattle.numbers.specs.Numbers.{quotient_of, remainder_of}
+use Rattle.numbers.proofs.share_of.Goals as goal
+
+-- TODO no goal for overflow-sub-result
+sub-result : goal.Need-overflow-sub-result
+sub-result c = negated_fits c.a-in-Refused-1.given.0.0 c.number.result c.number.ensures
+
+pub returns-in-Exact : goal.returns-in-Exact
+returns-in-Exact c =
+    let k = c.a-1.given in
+    let before = c.args.rest.now in
+    (to_z_pos w64 k.0.0 (omega arith) ∙ ap quotient_of (sym k.1), ap (λ a. remainder_of a before) (sym k.1))
+
+pub returns-in-Refused : goal.returns-in-Refused
+returns-in-Refused c =
+    let k = c.a-in-Refused-1.given in
+    let before = c.args.rest.now in
+    (negated_is k.0.0 c.number.result c.number.ensures ∙ ap quotient_of (sym k.1), ap (λ a. remainder_of a before) (sym k.1))

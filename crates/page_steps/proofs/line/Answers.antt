@@ -1,0 +1,8 @@
+-- Each digit at its place.
+use Rattle.planning.specs.Printer.{word_line}
+use borrow.Author.Rules.{rules}
+use Rattle.page_steps.proofs.line.Goals as goal
+
+pub returns : goal.returns
+unfolding word_line
+returns c = cc

@@ -1,0 +1,12 @@
+-- The byte is put where the first zero stood.
+use mathlib.Core.Path.{refl}
+use Rattle.text.proofs.Pages.{added_byte, added_full}
+use native.Mathlib.Omega.{arith}
+use borrow.Author.Rules.{rules}
+use Rattle.page_steps.proofs.with_byte.Goals as goal
+
+pub returns-then-n-ge288 : goal.returns-then-n-ge288
+returns-then-n-ge288 c = added_full _ _ (omega arith)
+
+pub returns : goal.returns
+returns c = added_byte _ _ _ refl refl

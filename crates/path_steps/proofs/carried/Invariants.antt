@@ -1,0 +1,14 @@
+-- The invariant: z is the sum of a and the first j of the path, cut to the window. The measure: the masks left.
+use mathlib.Core.Path.{◌≡◌, subst}
+use Prim.Native.Nat.{◌≤◌, ◌-◌}
+use Rattle.rows.specs.Cells.{At}
+use Rattle.completions.proofs.Covering.{Carried, carried_none, carried_more}
+use borrow.Author.Rules.{rules}
+use native.Mathlib.Omega.{arith}
+use Rattle.path_steps.proofs.carried.Given as goal
+
+abbrev pub invariant-loop-j : goal.invariant-loop-j
+invariant-loop-j l = (l.j ≤ l.len) × Carried (At l.initial.z) l.path l.z l.j
+
+abbrev pub decreases-loop-j : goal.decreases-loop-j
+decreases-loop-j l = l.len - l.j

@@ -1,0 +1,37 @@
+-- Where the residue has (0, 0) the sum of the path is in the target, and the rows have all of it.
+use mathlib.Core.Path.{◌≡◌}
+use mathlib.Core.Bool.{false≢true}
+use Prim.Native.Nat.{◌/◌, ◌%◌}
+use lib.ListN.{get_or}
+use Rattle.rows.proofs.Known.{field16}
+use Rattle.completions.proofs.Covering.{origin_left, path_whole, path_part}
+use native.Mathlib.Omega.{arith}
+use borrow.Author.Rules.{rules}
+use Rattle.path_steps.proofs.finished.Goals as goal
+
+pub returns-then-len-gt32 : goal.returns-then-len-gt32
+returns-then-len-gt32 c = record { few = λ e. absurd (false≢true e); whole = λ e. absurd (false≢true e); part = λ e l. let g = c.if-len-gt32.true in absurd (omega arith) }
+
+pub returns-then-rest-eq0 : goal.returns-then-rest-eq0
+returns-then-rest-eq0 c =
+    let h = c.args.here in
+    record {
+      few = λ e. absurd (false≢true e);
+      whole = λ e. absurd (false≢true e);
+      part = λ e l f s. let b : get_or h.rest 0 0 / 1 % 2 ≡ 1 = origin_left h.target h.rest h.path h.len f s in let g = c.if-rest-eq0.true in
+          omega arith;
+    }
+
+pub returns : goal.returns
+returns c =
+    let st = c in
+    let h = st.args.here in
+    let known = field16 h.target _ st.well-formed.0.1.1.0 in
+    let cut = c.carried-sum.ensures in
+    let g = c.if-rest-eq0.false in
+    let o : get_or h.rest 0 0 / 1 % 2 ≡ 1 = omega arith in
+    record {
+      few = λ e. omega arith;
+      whole = λ e f. path_whole h.target h.rest h.path c.carried-sum.result h.len known cut f o (c.same.ensures.0 e);
+      part = λ e l f s. c.same.ensures.1 e (path_part h.target h.rest h.path c.carried-sum.result h.len known cut f s);
+    }

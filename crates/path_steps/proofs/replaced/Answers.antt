@@ -1,0 +1,11 @@
+use Prim.Native.Nat.{◌≤◌, ◌-◌}
+use lib.ListN.{length}
+use borrow.Author.Rules.{rules}
+use native.Mathlib.Omega.{arith}
+use Rattle.path_steps.proofs.replaced.Goals as goal
+
+pub returns-then-replaces : goal.returns-then-replaces
+returns-then-replaces c = (omega arith, λ l. (c.loop-p.invariant, c.replaces.ensures c.if-replaces.true))
+
+pub returns : goal.returns
+returns c = (omega arith, λ l. absurd (omega arith))

@@ -1,0 +1,30 @@
+use borrow.Author.Rules.{rules}
+use native.Mathlib.Omega.{arith}
+use mathlib.Core.Path.{◌≡◌, refl, sym, ◌∙◌}
+use Prim.Native.Nat.{◌-◌, ◌≤◌}
+use lib.ListN.{length, drop}
+use borrow.Author.Tests.{lt-ltb, le-ltb}
+use Rattle.plan_grounds.specs.Leaves.{falls}
+use Rattle.plane.specs.Lists.{any_next}
+use Rattle.plane.proofs.Member.{next_hit, next_miss, next_end}
+use Rattle.plan_grounds.proofs.falling.Goals as goal
+
+pub loop-i-init : goal.loop-i-init
+loop-i-init c = (omega arith, refl)
+
+pub returns-then-ws-i : goal.returns-then-ws-i
+returns-then-ws-i c =
+    let h = c.loop-i in
+    let ws = c.args.ws.now in
+    sym (h.invariant.1 ∙ next_hit ws h.i 0 falls (omega arith) (omega arith) (lt-ltb _ _ c.if-ws-i.true))
+
+pub loop-i-preserved : goal.loop-i-preserved
+loop-i-preserved c =
+    let h = c.loop-i in
+    let ws = c.args.ws.now in
+    (omega arith, h.invariant.1 ∙ next_miss ws h.i 0 falls (omega arith) (omega arith) (le-ltb _ _ c.if-ws-i.false))
+
+pub returns : goal.returns
+returns c =
+    let h = c.loop-i in
+    sym (h.invariant.1 ∙ next_end c.args.ws.now h.i falls c.loop-i-test.false)

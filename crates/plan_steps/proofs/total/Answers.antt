@@ -1,0 +1,40 @@
+use borrow.Author.Rules.{rules}
+use native.Mathlib.Omega.{arith}
+use mathlib.Core.Path.{◌≡◌}
+use Prim.Native.Nat.{◌+◌, ◌*◌, ◌-◌, ◌≤◌}
+use lib.ListN.{length, get_or, drop}
+use Rattle.words.specs.Word.{stage_mask}
+use Rattle.plan_steps.specs.Extent.{extent_of}
+use Rattle.stage_steps.proofs.Stages.{reach_small}
+use Rattle.plan_steps.proofs.Words.{extent_one, extent_none}
+use Rattle.plan_steps.proofs.total.Goals as goal
+
+-- TODO no goal for overflow-add-sum
+add-sum : goal.Need-overflow-add-sum
+add-sum c =
+    let h = c.loop-i in
+    let st = c.args in
+    let w = stage_mask (get_or st.ws.now h.i 0) in
+    let s = reach_small st.down w in
+    let e = c.reach-sum.ensures in
+    omega arith
+
+pub loop-i-init : goal.loop-i-init
+loop-i-init c = (omega arith, omega arith, omega arith, omega arith)
+
+pub loop-i-preserved : goal.loop-i-preserved
+loop-i-preserved c =
+    let h = c.loop-i in
+    let st = c.args in
+    let w = stage_mask (get_or st.ws.now h.i 0) in
+    let s = reach_small st.down w in
+    let e = c.reach-sum.ensures in
+    let o = extent_one st.down st.ws.now h.i (omega arith) in
+    (omega arith, omega arith, omega arith, omega arith)
+
+pub returns : goal.returns
+returns c =
+    let h = c.loop-i in
+    let st = c.args in
+    let z = extent_none st.down st.ws.now h.i c.loop-i-test.false in
+    (omega arith, omega arith)

@@ -1,0 +1,17 @@
+-- The rows below j are put in; the measure is what is left of them.
+use borrow.Author.Rules.{rules}
+use native.Mathlib.Omega.{arith}
+use mathlib.Core.Path.{◌≡◌}
+use Prim.Native.Nat.{◌+◌, ◌*◌, ◌-◌, ◌≤◌}
+use lib.ListN.{length}
+use borrow.Rule.Slice.PartMut.{mid_len}
+use Rattle.ranges.proofs.FlatRows.{rows_apart}
+use Rattle.planes.specs.Bytes.{Bitted}
+use Rattle.plane_group_steps.proofs.Grouping.{few_bit, few_none, few_more, few_all}
+use Rattle.plane_group_steps.proofs.few.Given as goal
+
+abbrev pub invariant-loop-j : goal.invariant-loop-j
+invariant-loop-j l = (l.j ≤ l.r) × Bitted 0 (length l.initial.d) (few_bit l.some l.s l.w l.r l.outside l.j) l.initial.d l.d
+
+abbrev pub decreases-loop-j : goal.decreases-loop-j
+decreases-loop-j l = l.r - l.j

@@ -1,0 +1,26 @@
+-- Each test in turn: where one fails, so does their conjunction, and the last decides.
+use native.Mathlib.Omega.{arith}
+use Prim.Native.Nat.{◌*◌}
+use lib.Dec.{leb}
+use borrow.Author.Tests.{le-leb, lt-leb}
+use Rattle.ranges.proofs.Sizing.{fourth, product_le}
+use Rattle.plane_group_steps.proofs.group_fits.Goals as goal
+
+pub returns-then-w-n : goal.returns-then-w-n
+returns-then-w-n c = let a = c.args in rw (lt-leb a.n a.w (omega arith))
+
+pub returns-then-r-gt8 : goal.returns-then-r-gt8
+returns-then-r-gt8 c = let a = c.args in simp (le-leb a.n a.w (omega arith), lt-leb a.r 8 (omega arith))
+
+pub returns-then-w-gt65535 : goal.returns-then-w-gt65535
+returns-then-w-gt65535 c =
+    let a = c.args in
+    simp (le-leb a.n a.w (omega arith), le-leb a.r 8 (omega arith), lt-leb a.w 65535 (omega arith))
+
+pub overflow_mul-result : goal.overflow_mul-result
+overflow_mul-result c = let a = c.args in omega (arith, product_le a.r a.w (omega arith) (omega arith))
+
+pub returns : goal.returns
+returns c =
+    let a = c.args in
+    fourth (leb (a.r * a.w) a.m) (le-leb a.n a.w (omega arith)) (le-leb a.r 8 (omega arith)) (le-leb a.w 65535 (omega arith))

@@ -1,0 +1,75 @@
+use borrow.Author.Rules.{rules}
+use mathlib.Core.Path.{refl}
+use Prim.Native.Nat.{◌-◌}
+use Rattle.plane_pack_steps.proofs.PackRows.{group_fits_lem, Filling, first_small, filling_first, filling_more, filling_all}
+use native.Mathlib.Omega.{arith}
+use Rattle.plane_pack_steps.proofs.grouped.Goals as goal
+
+-- TODO no goal for overflow-mul-p-2
+mul-p-2 : goal.Need-overflow-mul-p-2
+mul-p-2 c =
+    let st = c in
+    let k = st.requires.0 in
+    let f = first_small st.args.far c.leading-y.result st.args.gw st.args.w c.leading-y.ensures in
+    omega (arith, k.columns, k.wide)
+
+-- TODO no goal for overflow-add-p-2
+add-p-2 : goal.Need-overflow-add-p-2
+add-p-2 c =
+    let st = c in
+    let k = st.requires.0 in
+    let f = first_small st.args.far c.leading-y.result st.args.gw st.args.w c.leading-y.ensures in
+    omega (arith, k.columns, k.wide)
+
+-- TODO no goal for overflow-add-p-3
+add-p-3 : goal.Need-overflow-add-p-3
+add-p-3 c =
+    let st = c in
+    let k = st.requires.0 in
+    let f = first_small st.args.far c.leading-y.result st.args.gw st.args.w c.leading-y.ensures in
+    omega (arith, k.columns, k.wide)
+
+-- TODO no goal for overflow-mul-q
+mul-q : goal.Need-overflow-mul-q
+mul-q c =
+    let st = c in
+    let k = st.requires.0 in
+    let f = first_small st.args.far c.leading-y.result st.args.gw st.args.w c.leading-y.ensures in
+    omega (arith, k.columns, k.wide)
+
+-- TODO no goal for overflow-add-p-4
+add-p-4 : goal.Need-overflow-add-p-4
+add-p-4 c =
+    let l = c in
+    let g = group_fits_lem l.requires.0 l.loop-y.y (omega arith) in omega arith
+
+-- TODO no goal for overflow-add-q
+add-q : goal.Need-overflow-add-q
+add-q c =
+    let l = c in
+    let g = group_fits_lem l.requires.0 l.loop-y.y (omega arith) in omega arith
+
+pub loop-y-init : goal.loop-y-init
+loop-y-init c =
+    let st = c in
+    let y = c.leading-y in
+    filling_first st.args.some st.requires.0 y.result _ _ y.ensures refl refl st.requires.1 st.requires.2
+
+pub next-requires : goal.next-requires
+next-requires c =
+    let k = c.requires.0 in
+    let g = group_fits_lem k c.loop-y.y (omega arith) in
+    (omega (arith, k.wide, k.columns), omega arith, omega arith)
+
+pub loop-y-preserved : goal.loop-y-preserved
+loop-y-preserved c =
+    let l = c.loop-y in
+    filling_more c.args.some
+    c.requires.0 {p = l.p} {q = l.q} {y = l.y} l.invariant
+    c.loop-y-test.true c.next.ensures
+
+pub returns : goal.returns
+returns c =
+    let l = c.loop-y in
+    filling_all c.args.some c.requires.0 {p = l.p} {q = l.q} {y = l.y}
+    l.invariant c.loop-y-test.false

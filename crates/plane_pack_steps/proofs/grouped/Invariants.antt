@@ -1,0 +1,13 @@
+-- The rows below y are packed, the others have the value outside; the measure is what is left of the frame's rows.
+use borrow.Author.Rules.{rules}
+use mathlib.Core.Path.{refl}
+use Prim.Native.Nat.{◌-◌}
+use Rattle.plane_pack_steps.proofs.PackRows.{group_fits_lem, Filling, first_small, filling_first, filling_more, filling_all}
+use native.Mathlib.Omega.{arith}
+use Rattle.plane_pack_steps.proofs.grouped.Given as goal
+
+abbrev pub invariant-loop-y : goal.invariant-loop-y
+invariant-loop-y l = Filling l.some l.outside l.far l.w l.h l.gw l.gh l.f l.initial.dst l.dst l.p l.q l.y
+
+abbrev pub decreases-loop-y : goal.decreases-loop-y
+decreases-loop-y l = l.h - l.y

@@ -1,0 +1,26 @@
+-- A part of the bytes, into which a part of the cells is put.
+use native.Mathlib.Omega.{arith}
+use borrow.Author.Rules.{rules}
+use mathlib.Core.Path.{ap}
+use Prim.Native.Nat.{ℕ, ◌*◌}
+use Rattle.plane_pack_steps.proofs.GroupParts.{group_put}
+use Rattle.plane_pack_steps.proofs.next.Goals as goal
+
+-- TODO no goal for overflow-mul-group
+mul-group : goal.Need-overflow-mul-group
+mul-group c = let a = c.args in omega (arith, ap (λ (i : ℕ). i * a.w) c.rows-r.ensures)
+
+-- TODO no goal for overflow-add-group-2
+add-group-2 : goal.Need-overflow-add-group-2
+add-group-2 c = let a = c.args in omega (arith, ap (λ (i : ℕ). i * a.w) c.rows-r.ensures)
+
+-- TODO no goal for slice-bounds-group-end-2
+part-group-end-2 : goal.Need-slice-bounds-group-end-2
+part-group-end-2 c = let a = c.args in omega (arith, ap (λ (i : ℕ). i * a.w) c.rows-r.ensures)
+
+pub returns : goal.returns
+returns c =
+    let a = c.args in
+    let r = c.rows-r in
+    group_put a.some a.w a.a a.p a.q a.outside a.f.now a.dst.now r.result (omega arith) r.ensures (omega arith)
+    (omega (arith, ap (λ (i : ℕ). i * a.w) r.ensures)) c.group.ensures

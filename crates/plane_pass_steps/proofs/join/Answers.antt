@@ -1,0 +1,27 @@
+-- Where something that is read is not there nothing is written; where all is, the pass is the whole promise.
+use borrow.Author.Rules.{rules}
+use lib.ListN.{length}
+use Rattle.ranges.proofs.Sizing.{was_kept, was_done, test_fails, test_holds}
+use Rattle.plane_pass_steps.specs.Passes.{reads_fit}
+use Rattle.plane_pass_steps.proofs.Rooms.{reads_say}
+use Rattle.plane_pass_steps.proofs.join.Goals as goal
+
+pub returns-then-not-reads_fit : goal.returns-then-not-reads_fit
+returns-then-not-reads_fit c =
+    let a = c.args in
+    was_kept (reads_fit (length a.d.now) (length a.s.now) a.c a.x a.y a.z) a.d.now
+    (test_fails c.reads_fit.ensures c.if-not-reads_fit.taken)
+
+pub join-requires : goal.join-requires
+join-requires c =
+    let a = c.args in
+    let s = reads_say (length a.d.now) (length a.s.now) a.c a.x a.y a.z
+    (test_holds c.reads_fit.ensures c.if-not-reads_fit.false) in
+    (s.0, s.1, s.2, c.lift.ensures.1, c.lift.ensures.2)
+
+pub returns : goal.returns
+returns c =
+    let a = c.args in
+    was_done (reads_fit (length a.d.now) (length a.s.now) a.c a.x a.y a.z) a.d.now
+    (test_holds c.reads_fit.ensures c.if-not-reads_fit.false)
+    (rw c.lift.ensures.0 at c.join.ensures)

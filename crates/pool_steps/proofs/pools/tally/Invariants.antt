@@ -1,0 +1,9 @@
+-- The measure: the masks left.
+use Rattle.std.proofs.Common.{◌-◌, ◌≤◌, rules}
+use Rattle.pool_steps.proofs.pools.tally.Given as goal
+
+abbrev pub invariant-loop-j : goal.invariant-loop-j
+invariant-loop-j l = l.j ≤ l.n
+
+abbrev pub decreases-loop-j : goal.decreases-loop-j
+decreases-loop-j l = l.n - l.j

@@ -1,0 +1,43 @@
+-- The stages are run on the last parts of both images.
+use mathlib.Core.Path.{◌≡◌}
+use Prim.Native.Nat.{◌+◌, ◌≤◌}
+use lib.ListN.{length}
+use Rattle.planes.specs.Planes.{plane_size}
+use Rattle.result_steps.proofs.Rooms.{plane_is}
+use Rattle.result_steps.proofs.Behind.{second_starts, second_able, second_ends}
+use borrow.Author.Rules.{rules}
+use Rattle.result_steps.proofs.levels.second_stages.Goals as goal
+
+-- the parts where the first planes end
+at : (c : goal.After-plane_bytes-o) → c.plane_bytes-o.result ≡ plane_size (c.args.w + 15) (c.args.h + 15)
+at c = plane_is c.args.w c.args.h c.requires.1.sides c.plane_bytes-o.ensures
+
+starts : (c : goal.After-plane_bytes-o) → let a = c.args in
+    (c.plane_bytes-o.result ≤ length a.first.now) × (c.plane_bytes-o.result ≤ length a.second.now)
+starts c =
+    let a = c.args in second_starts a.op a.plan.now a.w a.h a.first.now a.second.now c.requires.1 (at c)
+
+-- TODO no goal for overflow-sub-stages
+sub-stages : goal.Need-overflow-sub-stages
+sub-stages c = (starts c).0
+
+-- TODO no goal for slice-bounds-stages-start
+part-stages-start : goal.Need-slice-bounds-stages-start
+part-stages-start c = (starts c).0
+
+-- TODO no goal for overflow-sub-stages-2
+sub-stages-2 : goal.Need-overflow-sub-stages-2
+sub-stages-2 c = (starts c).1
+
+-- TODO no goal for slice-bounds-stages-start-2
+part-stages-start-2 : goal.Need-slice-bounds-stages-start-2
+part-stages-start-2 c = (starts c).1
+
+pub returns : goal.returns
+returns c =
+    let p = c in
+    let st = p in
+    let a = st.args in
+    let e = c.stages.ensures.through
+    (second_able a.op a.plan.now a.w a.h a.first.now a.second.now st.pre.1 (at p) st.pre.0) in
+    second_ends a.op a.plan.now a.w a.h a.first.now a.second.now st.pre.1 (at p) e

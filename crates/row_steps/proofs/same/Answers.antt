@@ -1,0 +1,27 @@
+use borrow.Author.Rules.{rules}
+use native.Mathlib.Omega.{arith}
+use mathlib.Core.Path.{◌≡◌}
+use Prim.Native.Nat.{ℕ, ◌≤◌, ◌<◌, ◌-◌}
+use lib.ListN.{get_or}
+use mathlib.Core.Bool.{true≢false, false≢true}
+use borrow.Author.Count.{below_more}
+use Rattle.rows.proofs.Sums.{rows_differ, rows_same}
+use Rattle.rows.proofs.Known.{rows16}
+use Rattle.row_steps.proofs.same.Goals as goal
+
+pub returns-then-a-i : goal.returns-then-a-i
+returns-then-a-i c =
+    let g = c.well-formed in
+    let a = c.args.a in
+    let b = c.args.b in
+    (λ e. absurd (false≢true e), λ e. rows_differ a b (rows16 a _ g.0) (rows16 b _ g.1.0) c.loop-i.i c.if-a-i.true)
+
+pub loop-i-preserved : goal.loop-i-preserved
+loop-i-preserved c = (search rules, below_more _ _ c.loop-i.invariant.1 c.if-a-i.false)
+
+pub returns : goal.returns
+returns c =
+    let g = c.well-formed in
+    let a = c.args.a in
+    let b = c.args.b in
+    (λ e. rows_same a b (rows16 a _ g.0) (rows16 b _ g.1.0) (λ q l. c.loop-i.invariant.1 q (omega arith)), λ e. absurd (true≢false e))

@@ -1,0 +1,13 @@
+-- Two numbers of a byte each.
+use mir.Syntax.{w8}
+use Rattle.rows.proofs.Known.{array_below}
+use native.Mathlib.Omega.{arith}
+use borrow.Author.Rules.{rules}
+use Rattle.search_steps.proofs.too_many.Goals as goal
+
+-- TODO no goal for overflow-add-result
+add-result : goal.Need-overflow-add-result
+add-result c =
+    let g = c.well-formed.0 in
+    let a = array_below w8 c.args.need g.0 g.1.1 in
+    omega (arith, a 16, a 17)

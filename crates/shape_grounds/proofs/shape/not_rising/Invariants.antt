@@ -1,0 +1,17 @@
+-- The invariant: what is left to try from the row before `i` on is what was left from the first row on.
+use borrow.Author.Rules.{rules}
+use native.Mathlib.Omega.{arith}
+use mathlib.Core.Path.{◌≡◌, refl, sym, ◌∙◌}
+use Prim.Native.Nat.{◌-◌, ◌≤◌}
+use lib.ListN.{length, drop}
+use borrow.Author.Tests.{le-leb, lt-leb}
+use Rattle.shapes.specs.Shape.{not_rising}
+use Rattle.plane.specs.Lists.{any_next}
+use Rattle.plane.proofs.Member.{next_hit, next_miss, next_end}
+use Rattle.shape_grounds.proofs.shape.not_rising.Given as goal
+
+abbrev pub invariant-loop-i : goal.invariant-loop-i
+invariant-loop-i l = (1 ≤ l.i) × (any_next not_rising (drop 1 l.ws) ≡ any_next not_rising (drop (l.i - 1) l.ws))
+
+abbrev pub decreases-loop-i : goal.decreases-loop-i
+decreases-loop-i l = length l.ws - l.i
