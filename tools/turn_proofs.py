@@ -190,7 +190,12 @@ def turned(path, crate, f, n):
         m = re.match(rf"(?:pub )?({ID}) : tie\.Need-({ID})", code[0])
         if m:
             name, old = m[1], m[2]
-            new = n.needs.get(plain(old))
+            new, key = None, plain(old)
+            for key in (key, re.sub("^overflow-", "", key), re.sub("^(slice-bounds)-", "", key), re.sub("^slice-bounds-", "part-", key)):
+                new = new or n.needs.get(key)
+                if new:
+                    old = key
+                    break
             body = "\n".join(code[1:])
             if re.fullmatch(rf"{re.escape(name)}( {ID})* =\s*search rules\s*", body):
                 continue

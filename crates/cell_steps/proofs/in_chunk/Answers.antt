@@ -7,12 +7,11 @@ use Rattle.cell_steps.specs.Leaves.{counts_of}
 use Rattle.cell_steps.proofs.Loops.{counts_one, counts_none}
 use Rattle.cell_steps.proofs.in_chunk.Goals as goal
 
--- TODO no goal for overflow-add-n
-add-n : goal.Need-overflow-add-n
-add-n c = omega arith
-
 pub loop-j-init : goal.loop-j-init
 loop-j-init c = (omega arith, omega arith)
+
+pub overflow_add-n : goal.overflow_add-n
+overflow_add-n c = omega arith
 
 pub loop-j-preserved : goal.loop-j-preserved
 loop-j-preserved c =

@@ -4,11 +4,10 @@ use native.Mathlib.Omega.{arith}
 use Rattle.claim_calls.proofs.Stepped.{stopped, went_on, words_there}
 use Rattle.claim_calls.proofs.steps.Goals as goal
 
--- TODO no goal for slice-bounds-operate-end
-part-operate-end : goal.Need-slice-bounds-operate-end
-part-operate-end c =
+pub slice_bounds-operate-end : goal.slice_bounds-operate-end
+slice_bounds-operate-end c =
     let p = c.plan-planned in
-    let l = words_there p.result c.planned-in-Done-1.given.1 p.ensures in
+    let l = words_there p.result c.in-Done.is p.ensures in
     omega arith
 
 pub returns-in-Refused : goal.returns-in-Refused

@@ -31,16 +31,6 @@ able c =
     runs a.plan.now a.w a.h a.frame.now a.first.now a.second.now (passed k) (two k) a.op
     c.levels.ensures
 
--- TODO no goal for overflow-cast-run
-cast-run : goal.Need-overflow-cast-run
-cast-run c =
-    let at = c in
-    let k = at in
-    let a = k.args in
-    let l = few_stages a.plan.now (plan_accepted a.plan.now a.w a.h a.frame.now a.first.now a.second.now (passed k)) a.op
-    (at.run-n.ensures.through (able at)).ended.count in
-    record { fits = omega arith }
-
 pub returns-in-Refused : goal.returns-in-Refused
 returns-in-Refused c =
     let t = c in
@@ -54,6 +44,15 @@ levels-requires c =
     let a = k.args in
     packable a.plan.now a.w a.h a.frame.now a.first.now a.second.now (passed k)
     k.greatest_cell-greatest.ensures
+
+pub overflow_cast-run : goal.overflow_cast-run
+overflow_cast-run c =
+    let at = c in
+    let k = at in
+    let a = k.args in
+    let l = few_stages a.plan.now (plan_accepted a.plan.now a.w a.h a.frame.now a.first.now a.second.now (passed k)) a.op
+    (at.run-n.ensures.through (able at)).ended.count in
+    record { fits = omega arith }
 
 pub returns : goal.returns
 returns c =

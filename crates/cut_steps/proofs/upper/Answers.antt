@@ -10,27 +10,24 @@ use Rattle.cuts.specs.Cuts.{seen}
 use Rattle.cuts.proofs.CutRows.{laid_none, laid_more}
 use Rattle.cut_steps.proofs.upper.Goals as goal
 
--- TODO no goal for overflow-add-across
-add-across : goal.Need-overflow-add-across
-add-across c =
+pub loop-y-init : goal.loop-y-init
+loop-y-init c = (omega arith, omega arith, laid_none _)
+
+pub overflow_add-p : goal.overflow_add-p
+overflow_add-p c =
     let a = c.args in
     let l = c.loop-y in omega (arith, rows_apart a.w l.y a.h (omega arith), mul_comm a.w a.h, l.invariant.2.len)
 
--- TODO no goal for slice-bounds-across-end
-part-across-end : goal.Need-slice-bounds-across-end
-part-across-end c =
+pub slice_bounds-across-end : goal.slice_bounds-across-end
+slice_bounds-across-end c =
     let a = c.args in
     let l = c.loop-y in omega (arith, rows_apart a.w l.y a.h (omega arith), mul_comm a.w a.h, l.invariant.2.len)
 
--- TODO no goal for overflow-add-p
-add-p : goal.Need-overflow-add-p
-add-p c =
+pub overflow_add-p-in-loop-y : goal.overflow_add-p-in-loop-y
+overflow_add-p-in-loop-y c =
     let a = c.args in
     let l = c.loop-y in
     omega (arith, rows_apart a.w l.y a.h (omega arith), mul_comm a.w a.h, l.invariant.2.len)
-
-pub loop-y-init : goal.loop-y-init
-loop-y-init c = (omega arith, omega arith, laid_none _)
 
 pub loop-y-preserved : goal.loop-y-preserved
 loop-y-preserved c =

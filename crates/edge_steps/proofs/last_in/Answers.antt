@@ -5,9 +5,8 @@ use native.Mathlib.Omega.{arith}
 use borrow.Author.Rules.{rules}
 use Rattle.edge_steps.proofs.last_in.Goals as goal
 
--- TODO no goal for overflow-sub-result
-sub-result : goal.Need-overflow-sub-result
-sub-result c = let l : c.args.row < 65536 = omega arith in omega (arith, (last_of c.args.row c.requires l).0)
+pub overflow_sub-result : goal.overflow_sub-result
+overflow_sub-result c = let l : c.args.row < 65536 = omega arith in omega (arith, (last_of c.args.row c.requires l).0)
 
 pub returns : goal.returns
 returns c = (last_of c.args.row c.requires (omega arith)).1

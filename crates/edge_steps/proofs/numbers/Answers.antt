@@ -10,36 +10,6 @@ use borrow.Author.Rules.{rules}
 use native.Mathlib.Omega.{arith}
 use Rattle.edge_steps.proofs.numbers.Goals as goal
 
--- TODO no goal for overflow-cast-number
-cast-number : goal.Need-overflow-cast-number
-unfolding first_direction second_direction middle_of times_of
-cast-number c = let k = inside c.loop-i.i (omega arith) in search rules
-
--- TODO no goal for overflow-mul-number
-mul-number : goal.Need-overflow-mul-number
-unfolding first_direction second_direction middle_of times_of
-mul-number c = let k = inside c.loop-i.i (omega arith) in search rules
-
--- TODO no goal for overflow-cast-number-2
-cast-number-2 : goal.Need-overflow-cast-number-2
-unfolding first_direction second_direction middle_of times_of
-cast-number-2 c = let k = inside c.loop-i.i (omega arith) in search rules
-
--- TODO no goal for overflow-mul-number-2
-mul-number-2 : goal.Need-overflow-mul-number-2
-unfolding first_direction second_direction middle_of times_of
-mul-number-2 c = let k = inside c.loop-i.i (omega arith) in search rules
-
--- TODO no goal for overflow-cast-number-3
-cast-number-3 : goal.Need-overflow-cast-number-3
-unfolding first_direction second_direction middle_of times_of
-cast-number-3 c = let k = inside c.loop-i.i (omega arith) in search rules
-
--- TODO no goal for overflow-mul-number-3
-mul-number-3 : goal.Need-overflow-mul-number-3
-unfolding first_direction second_direction middle_of times_of
-mul-number-3 c = let k = inside c.loop-i.i (omega arith) in search rules
-
 pub returns-then-s-eq0 : goal.returns-then-s-eq0
 returns-then-s-eq0 c =
     let st = c in
@@ -50,13 +20,37 @@ returns-then-s-eq0 c =
 pub loop-i-init : goal.loop-i-init
 loop-i-init c = (omega arith, (refl, λ k l. absurd (omega arith)))
 
+pub overflow_cast-first : goal.overflow_cast-first
+unfolding first_direction second_direction middle_of times_of
+overflow_cast-first c = let k = inside c.loop-i.i (omega arith) in search rules
+
+pub offset_bounds-s-first : goal.offset_bounds-s-first
+unfolding first_direction second_direction middle_of times_of
+offset_bounds-s-first c = let k = inside c.loop-i.i (omega arith) in search rules
+
 pub bounds-s-first : goal.bounds-s-first
 unfolding first_direction second_direction middle_of times_of
 bounds-s-first c = let k = inside c.loop-i.i (omega arith) in search rules
 
+pub overflow_cast-second : goal.overflow_cast-second
+unfolding first_direction second_direction middle_of times_of
+overflow_cast-second c = let k = inside c.loop-i.i (omega arith) in search rules
+
+pub offset_bounds-s-second : goal.offset_bounds-s-second
+unfolding first_direction second_direction middle_of times_of
+offset_bounds-s-second c = let k = inside c.loop-i.i (omega arith) in search rules
+
 pub bounds-s-second : goal.bounds-s-second
 unfolding first_direction second_direction middle_of times_of
 bounds-s-second c = let k = inside c.loop-i.i (omega arith) in search rules
+
+pub overflow_cast-middle : goal.overflow_cast-middle
+unfolding first_direction second_direction middle_of times_of
+overflow_cast-middle c = let k = inside c.loop-i.i (omega arith) in search rules
+
+pub offset_bounds-s-middle : goal.offset_bounds-s-middle
+unfolding first_direction second_direction middle_of times_of
+offset_bounds-s-middle c = let k = inside c.loop-i.i (omega arith) in search rules
 
 pub bounds-s-middle : goal.bounds-s-middle
 unfolding first_direction second_direction middle_of times_of

@@ -3,37 +3,29 @@ use Rattle.edges.proofs.Directions.{products}
 use native.Mathlib.Omega.{arith}
 use Rattle.edge_steps.proofs.value.Goals as goal
 
--- TODO no goal for overflow-mul-result
-mul-result : goal.Need-overflow-mul-result
-mul-result c = let k = products c.requires in omega arith
+pub overflow_mul-result : goal.overflow_mul-result
+overflow_mul-result c = let k = products c.requires in omega arith
 
--- TODO no goal for overflow-mul-result-2
-mul-result-2 : goal.Need-overflow-mul-result-2
-mul-result-2 c = let k = products c.requires in omega arith
+pub overflow_mul-result-2 : goal.overflow_mul-result-2
+overflow_mul-result-2 c = let k = products c.requires in omega arith
 
--- TODO no goal for overflow-add-result
-add-result : goal.Need-overflow-add-result
-add-result c = let k = products c.requires in omega arith
+pub overflow_add-result : goal.overflow_add-result
+overflow_add-result c = let k = products c.requires in omega arith
 
--- TODO no goal for overflow-add-result-2
-add-result-2 : goal.Need-overflow-add-result-2
-add-result-2 c = let k = products c.requires in omega arith
+pub overflow_add-result-2 : goal.overflow_add-result-2
+overflow_add-result-2 c = let k = products c.requires in omega arith
 
--- TODO no goal for overflow-mul-result-3
-mul-result-3 : goal.Need-overflow-mul-result-3
-mul-result-3 c = let k = products c.requires in omega arith
+pub overflow_mul-result-3 : goal.overflow_mul-result-3
+overflow_mul-result-3 c = let k = products c.requires in omega arith
 
--- TODO no goal for overflow-mul-result-4
-mul-result-4 : goal.Need-overflow-mul-result-4
-mul-result-4 c = let k = products c.requires in omega arith
+pub overflow_mul-result-4 : goal.overflow_mul-result-4
+overflow_mul-result-4 c = let k = products c.requires in omega arith
 
--- TODO no goal for overflow-add-result-3
-add-result-3 : goal.Need-overflow-add-result-3
-add-result-3 c = let k = products c.requires in omega arith
+pub overflow_add-result-3 : goal.overflow_add-result-3
+overflow_add-result-3 c = let k = products c.requires in omega arith
 
--- TODO no goal for overflow-sub-result
-sub-result : goal.Need-overflow-sub-result
-sub-result c = let k = products c.requires in omega arith
+pub overflow_sub-result : goal.overflow_sub-result
+overflow_sub-result c = let k = products c.requires in omega arith
 
 pub returns : goal.returns
 returns c = let k = products c.requires in omega arith

@@ -11,9 +11,8 @@ use Rattle.elements.proofs.Stands.{some, sound_cell}
 use Rattle.extents.specs.Extents.{row, column}
 use Rattle.elements.proofs.sum.Goals as goal
 
--- TODO no goal for overflow-add-x
-add-x : goal.Need-overflow-add-x
-add-x c =
+pub overflow_add-x : goal.overflow_add-x
+overflow_add-x c =
     let st = c in
     let a = st.args.a in
     let b = st.args.b in
@@ -26,9 +25,8 @@ add-x c =
     let v = (sound_cell b wb S.1 q.x q.y q.cell).2 in
     omega arith
 
--- TODO no goal for overflow-add-y
-add-y : goal.Need-overflow-add-y
-add-y c =
+pub overflow_add-y : goal.overflow_add-y
+overflow_add-y c =
     let st = c in
     let a = st.args.a in
     let b = st.args.b in

@@ -16,22 +16,6 @@ use Rattle.end_steps.proofs.workable.Goals as goal
 sized : (c : goal.Else-bad_size) → bad_size c.args.w c.args.e ≡ false
 sized c = sym c.bad_size.ensures ∙ c.if-bad_size.false
 
--- TODO no goal for overflow-mul-if7
-mul-if7 : goal.Need-overflow-mul-if7
-mul-if7 c =
-    let a = c.args in
-    let u = sides a.w a.e (sized c) in
-    record { fits = omega (arith, mul-le-mul u.1 u.0) }
-
--- TODO no goal for overflow-mul-if10
-mul-if10 : goal.Need-overflow-mul-if10
-mul-if10 c =
-    let k = c in
-    let a = k.args in
-    let u = sides a.w a.e (sized k) in
-    let l : a.t ≤ 240 = omega (arith, c.if-e-t.false, u.1) in
-    record { fits = omega (arith, mul-le-mul l u.0) }
-
 pub returns-then-plan-lt2 : goal.returns-then-plan-lt2
 returns-then-plan-lt2 c = fails (λ q. omega (arith, q.whole.words.0, c.if-plan-lt2.true))
 
@@ -50,6 +34,12 @@ returns-then-bad_size c = fails (λ q. subst T (sym c.if-bad_size.true ∙ c.bad
 pub returns-then-e-gt31 : goal.returns-then-e-gt31
 returns-then-e-gt31 c = fails (λ q. omega (arith, q.whole.rows, c.if-e-gt31.true))
 
+pub overflow_mul-e : goal.overflow_mul-e
+overflow_mul-e c =
+    let a = c.args in
+    let u = sides a.w a.e (sized c) in
+    record { fits = omega (arith, mul-le-mul u.1 u.0) }
+
 pub returns-then-part-e : goal.returns-then-part-e
 returns-then-part-e c = fails (λ q. c.if-part-e.true q.whole.size)
 
@@ -58,6 +48,14 @@ returns-then-e-t c = fails (λ q. omega (arith, q.near, c.if-e-t.true))
 
 pub returns-then-e-t-2 : goal.returns-then-e-t-2
 returns-then-e-t-2 c = fails (λ q. omega (arith, q.near, c.if-e-t-2.true))
+
+pub overflow_mul-t : goal.overflow_mul-t
+overflow_mul-t c =
+    let k = c in
+    let a = k.args in
+    let u = sides a.w a.e (sized k) in
+    let l : a.t ≤ 240 = omega (arith, c.if-e-t.false, u.1) in
+    record { fits = omega (arith, mul-le-mul l u.0) }
 
 pub returns-then-d-t : goal.returns-then-d-t
 returns-then-d-t c = fails (λ q. c.if-d-t.true q.room)

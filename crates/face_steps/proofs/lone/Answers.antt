@@ -10,13 +10,12 @@ use native.Mathlib.Omega.{arith}
 use borrow.Author.Rules.{rules}
 use Rattle.face_steps.proofs.lone.Goals as goal
 
--- TODO no goal for overflow-shr-result
-shr-result : goal.Need-overflow-shr-result
-shr-result c = omega (arith, bit_in 16 _ _ (omega arith) (c.first_in.ensures.some (omega arith)).cell)
-
 pub returns-then-b-eq0 : goal.returns-then-b-eq0
 returns-then-b-eq0 c =
     (λ e. record { same = λ j k p q. absurd (no_bit j (subst (λ (n : ℕ). bit n j ≡ 1) c.if-b-eq0.true p)) }, λ e. absurd (true≢false e))
+
+pub overflow_shr-result : goal.overflow_shr-result
+overflow_shr-result c = omega (arith, bit_in 16 _ _ (omega arith) (c.first_in.ensures.some (omega arith)).cell)
 
 pub returns : goal.returns
 returns c =

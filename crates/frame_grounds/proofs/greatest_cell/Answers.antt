@@ -17,14 +17,6 @@ use Rattle.frame_grounds.proofs.greatest_cell.Goals as goal
 sized : (c : goal.Else-bad_size) → let a = c.args in bad_size a.w a.h ≡ false
 sized c = sym c.bad_size.ensures ∙ c.if-bad_size.false
 
--- TODO no goal for overflow-mul-n
-mul-n : goal.Need-overflow-mul-n
-mul-n c =
-    let e = c in
-    let a = e.args in
-    let l = few_cells a.w a.h (sized e) in
-    record { fits = omega arith }
-
 pub returns-then-bad_size : goal.returns-then-bad_size
 returns-then-bad_size c = let a = c.args in sym (cell_unsized a.w a.h a.frame.now (sym c.bad_size.ensures ∙ c.if-bad_size.true))
 
@@ -33,6 +25,13 @@ returns-then-wrong_length c =
     let e = c in
     let a = e.args in
     sym (cell_cut a.w a.h a.frame.now (sym (c.wrong_length.ensures (sized e)) ∙ c.if-wrong_length.true))
+
+pub overflow_mul-n : goal.overflow_mul-n
+overflow_mul-n c =
+    let e = c in
+    let a = e.args in
+    let l = few_cells a.w a.h (sized e) in
+    record { fits = omega arith }
 
 pub returns : goal.returns
 returns c =

@@ -5,15 +5,8 @@ use native.Mathlib.Omega.{arith}
 use Rattle.cell_steps.proofs.Loops.{counted_most, times_measured, all_measured}
 use Rattle.load_calls.proofs.measured.Goals as goal
 
--- TODO no goal for overflow-cast-all
-cast-all : goal.Need-overflow-cast-all
-cast-all c = let h = c.requires in record { fits = omega (arith, h.0) }
-
--- TODO no goal for overflow-sub-result
-sub-result : goal.Need-overflow-sub-result
-sub-result c =
-    let h = c.requires in
-    omega (arith, counted_most c.times.ensures h.0)
+pub overflow_cast-all : goal.overflow_cast-all
+overflow_cast-all c = let h = c.requires in record { fits = omega (arith, h.0) }
 
 pub returns-then-greatest-lt2 : goal.returns-then-greatest-lt2
 returns-then-greatest-lt2 c =
@@ -21,6 +14,11 @@ returns-then-greatest-lt2 c =
     let l = c.if-greatest-lt2.true in
     let h = s.requires in
     sym (all_measured s.args.frame.now (omega (arith, h.1)))
+
+pub overflow_sub-result : goal.overflow_sub-result
+overflow_sub-result c =
+    let h = c.requires in
+    omega (arith, counted_most c.times.ensures h.0)
 
 pub returns : goal.returns
 returns c =

@@ -12,20 +12,19 @@ use mir.ValLaws.{to_z-of_z, to_z_pos}
 use Rattle.numbers.proofs.Parted.{found, none, ran, ran_fits}
 use Rattle.numbers.proofs.part_of.Goals as goal
 
--- TODO no goal for overflow-cast-n
-cast-n : goal.Need-overflow-cast-n
-cast-n c =
-    let st = c in
-    let e = to_z-of_z w64 st.args.stages st.ranges.stages in
-    let t = subst (λ z. lt_z z (pos 0) ≡ false) e c.if-stages-lt0.false in
-    subst (λ z. T (non_neg z) × Fits w64 (nat_abs z)) (sym e) (ran_fits st.args.stages t st.ranges.stages)
-
 pub returns-then-stages-lt0 : goal.returns-then-stages-lt0
 returns-then-stages-lt0 c =
     let st = c in
     let a = st.args in
     none a.stages a.w a.h a.first.now a.second.now
     (subst (λ z. lt_z z (pos 0) ≡ true) (to_z-of_z w64 a.stages st.ranges.stages) c.if-stages-lt0.true)
+
+pub overflow_cast-n : goal.overflow_cast-n
+overflow_cast-n c =
+    let st = c in
+    let e = to_z-of_z w64 st.args.stages st.ranges.stages in
+    let t = subst (λ z. lt_z z (pos 0) ≡ false) e c.if-stages-lt0.false in
+    subst (λ z. T (non_neg z) × Fits w64 (nat_abs z)) (sym e) (ran_fits st.args.stages t st.ranges.stages)
 
 pub returns : goal.returns
 returns c =

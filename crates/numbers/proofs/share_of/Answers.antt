@@ -8,9 +8,8 @@ use Rattle.numbers.proofs.Signs.{negated_fits, negated_is}
 use Rattle.numbers.specs.Numbers.{quotient_of, remainder_of}
 use Rattle.numbers.proofs.share_of.Goals as goal
 
--- TODO no goal for overflow-sub-result
-sub-result : goal.Need-overflow-sub-result
-sub-result c = negated_fits c.a-in-Refused-1.given.0.0 c.number.result c.number.ensures
+pub overflow_sub-result : goal.overflow_sub-result
+overflow_sub-result c = negated_fits c.in-Refused.g c.number.result c.number.ensures
 
 pub returns-in-Exact : goal.returns-in-Exact
 returns-in-Exact c =

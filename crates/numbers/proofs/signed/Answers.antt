@@ -8,9 +8,8 @@ use Rattle.numbers.proofs.Signs.{negated_fits, negated_is}
 use Rattle.numbers.specs.Numbers.{signed_of}
 use Rattle.numbers.proofs.signed.Goals as goal
 
--- TODO no goal for overflow-sub-result
-sub-result : goal.Need-overflow-sub-result
-sub-result c = negated_fits c.a-in-Refused-1.given.0.0 c.number.result c.number.ensures
+pub overflow_sub-result : goal.overflow_sub-result
+overflow_sub-result c = negated_fits c.in-Refused.g c.number.result c.number.ensures
 
 pub returns-in-Done : goal.returns-in-Done
 returns-in-Done c = to_z_pos w64 c.in-Done.n (omega arith) ∙ ap signed_of (sym c.in-Done.is)

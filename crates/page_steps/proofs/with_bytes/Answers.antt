@@ -6,15 +6,14 @@ use borrow.Author.Rules.{rules}
 use native.Mathlib.Omega.{arith}
 use Rattle.page_steps.proofs.with_bytes.Goals as goal
 
--- TODO no goal for overflow-add-i
-add-i : goal.Need-overflow-add-i
-add-i c = omega arith
-
 pub loop-i-init : goal.loop-i-init
 loop-i-init c = (omega arith, added_none _)
 
 pub bounds-more-i : goal.bounds-more-i
 bounds-more-i c = omega arith
+
+pub overflow_add-i : goal.overflow_add-i
+overflow_add-i c = omega arith
 
 pub loop-i-smaller : goal.loop-i-smaller
 loop-i-smaller c = omega arith

@@ -7,15 +7,14 @@ use Prim.Native.Nat.{◌*◌}
 use Rattle.frame_grounds.proofs.Sides.{few_cells}
 use Rattle.part_calls.proofs.cells.Goals as goal
 
--- TODO no goal for overflow-mul-result
-mul-result : goal.Need-overflow-mul-result
-mul-result c =
+pub returns-then-bad_size : goal.returns-then-bad_size
+returns-then-bad_size c = let a = c.args in ap (λ b. cond b 0 (a.w * a.h)) (sym c.if-bad_size.true ∙ c.bad_size.ensures)
+
+pub overflow_mul-result : goal.overflow_mul-result
+overflow_mul-result c =
     let a = c.args in
     let l = few_cells a.w a.h (sym c.bad_size.ensures ∙ c.if-bad_size.false) in
     record { fits = omega arith }
-
-pub returns-then-bad_size : goal.returns-then-bad_size
-returns-then-bad_size c = let a = c.args in ap (λ b. cond b 0 (a.w * a.h)) (sym c.if-bad_size.true ∙ c.bad_size.ensures)
 
 pub returns : goal.returns
 returns c = let a = c.args in ap (λ b. cond b 0 (a.w * a.h)) (sym c.if-bad_size.false ∙ c.bad_size.ensures)

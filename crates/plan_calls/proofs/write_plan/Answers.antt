@@ -7,13 +7,6 @@ use Rattle.rows.proofs.Known.{field_below}
 use Rattle.plan_calls.proofs.Words.{WrittenTo, still_room, kept_length, started, stage_more, all_written}
 use Rattle.plan_calls.proofs.write_plan.Goals as goal
 
--- TODO no goal for overflow-add-out-4
-add-out-4 : goal.Need-overflow-add-out-4
-add-out-4 c =
-    let st = c in
-    let b = field_below 32 st.args.p.masks _ st.well-formed.1.1.0.1.1.1.1.0 (st.args.p.n - 1 - c.loop-i.i) in
-    record { fits = omega arith }
-
 pub bounds-out-1 : goal.bounds-out-1
 bounds-out-1 c =
     let st = c in still_room st.args.x st.args.y st.args.p.masks st.args.p.n st.args.out.now _ st.requires.1.1.1
@@ -22,6 +15,12 @@ pub loop-i-init : goal.loop-i-init
 loop-i-init c =
     let st = c in
     started st.args.x st.args.y st.args.p.masks st.args.p.n st.args.out.now _ _ st.requires.1.1.1 st.requires.1.1.0 refl refl
+
+pub overflow_add-out-in-loop-i : goal.overflow_add-out-in-loop-i
+overflow_add-out-in-loop-i c =
+    let st = c in
+    let b = field_below 32 st.args.p.masks _ st.well-formed.1.1.0.1.1.1.1.0 (st.args.p.n - 1 - c.loop-i.i) in
+    record { fits = omega arith }
 
 pub bounds-out-i : goal.bounds-out-i
 bounds-out-i c = let i = c.loop-i.invariant in let l = i.2.0 in omega arith

@@ -9,34 +9,30 @@ use Rattle.planes.specs.Bytes.{Bitted}
 use Rattle.plane_group_steps.proofs.Grouping.{few_bit, few_none, few_more, few_all}
 use Rattle.plane_group_steps.proofs.few.Goals as goal
 
--- TODO no goal for overflow-mul-lay
-mul-lay : goal.Need-overflow-mul-lay
-mul-lay c =
-    let a = c.args in
-    omega (arith, rows_apart a.w c.loop-j.j a.r (omega arith))
-
--- TODO no goal for overflow-mul-lay-2
-mul-lay-2 : goal.Need-overflow-mul-lay-2
-mul-lay-2 c =
-    let a = c.args in
-    omega (arith, rows_apart a.w c.loop-j.j a.r (omega arith))
-
--- TODO no goal for overflow-add-lay
-add-lay : goal.Need-overflow-add-lay
-add-lay c =
-    let a = c.args in
-    omega (arith, rows_apart a.w c.loop-j.j a.r (omega arith))
-
--- TODO no goal for slice-bounds-lay-end
-part-lay-end : goal.Need-slice-bounds-lay-end
-part-lay-end c =
-    let a = c.args in
-    omega (arith, rows_apart a.w c.loop-j.j a.r (omega arith))
-
 pub loop-j-init : goal.loop-j-init
 loop-j-init c =
     let a = c.args in
     (omega arith, few_none a.some a.s.now a.w a.r a.outside c.fill.ensures)
+
+pub overflow_mul-j : goal.overflow_mul-j
+overflow_mul-j c =
+    let a = c.args in
+    omega (arith, rows_apart a.w c.loop-j.j a.r (omega arith))
+
+pub overflow_mul-j-in-loop-j : goal.overflow_mul-j-in-loop-j
+overflow_mul-j-in-loop-j c =
+    let a = c.args in
+    omega (arith, rows_apart a.w c.loop-j.j a.r (omega arith))
+
+pub overflow_add-j : goal.overflow_add-j
+overflow_add-j c =
+    let a = c.args in
+    omega (arith, rows_apart a.w c.loop-j.j a.r (omega arith))
+
+pub slice_bounds-lay-end : goal.slice_bounds-lay-end
+slice_bounds-lay-end c =
+    let a = c.args in
+    omega (arith, rows_apart a.w c.loop-j.j a.r (omega arith))
 
 pub lay-requires : goal.lay-requires
 lay-requires c =

@@ -5,49 +5,33 @@ use Rattle.plane_pack_steps.proofs.PackRows.{group_fits_lem, Filling, first_smal
 use native.Mathlib.Omega.{arith}
 use Rattle.plane_pack_steps.proofs.grouped.Goals as goal
 
--- TODO no goal for overflow-mul-p-2
-mul-p-2 : goal.Need-overflow-mul-p-2
-mul-p-2 c =
+pub overflow_mul-p-2 : goal.overflow_mul-p-2
+overflow_mul-p-2 c =
     let st = c in
     let k = st.requires.0 in
     let f = first_small st.args.far c.leading-y.result st.args.gw st.args.w c.leading-y.ensures in
     omega (arith, k.columns, k.wide)
 
--- TODO no goal for overflow-add-p-2
-add-p-2 : goal.Need-overflow-add-p-2
-add-p-2 c =
+pub overflow_add-p-2 : goal.overflow_add-p-2
+overflow_add-p-2 c =
     let st = c in
     let k = st.requires.0 in
     let f = first_small st.args.far c.leading-y.result st.args.gw st.args.w c.leading-y.ensures in
     omega (arith, k.columns, k.wide)
 
--- TODO no goal for overflow-add-p-3
-add-p-3 : goal.Need-overflow-add-p-3
-add-p-3 c =
+pub overflow_add-p-3 : goal.overflow_add-p-3
+overflow_add-p-3 c =
     let st = c in
     let k = st.requires.0 in
     let f = first_small st.args.far c.leading-y.result st.args.gw st.args.w c.leading-y.ensures in
     omega (arith, k.columns, k.wide)
 
--- TODO no goal for overflow-mul-q
-mul-q : goal.Need-overflow-mul-q
-mul-q c =
+pub overflow_mul-q : goal.overflow_mul-q
+overflow_mul-q c =
     let st = c in
     let k = st.requires.0 in
     let f = first_small st.args.far c.leading-y.result st.args.gw st.args.w c.leading-y.ensures in
     omega (arith, k.columns, k.wide)
-
--- TODO no goal for overflow-add-p-4
-add-p-4 : goal.Need-overflow-add-p-4
-add-p-4 c =
-    let l = c in
-    let g = group_fits_lem l.requires.0 l.loop-y.y (omega arith) in omega arith
-
--- TODO no goal for overflow-add-q
-add-q : goal.Need-overflow-add-q
-add-q c =
-    let l = c in
-    let g = group_fits_lem l.requires.0 l.loop-y.y (omega arith) in omega arith
 
 pub loop-y-init : goal.loop-y-init
 loop-y-init c =
@@ -60,6 +44,16 @@ next-requires c =
     let k = c.requires.0 in
     let g = group_fits_lem k c.loop-y.y (omega arith) in
     (omega (arith, k.wide, k.columns), omega arith, omega arith)
+
+pub overflow_add-p-in-loop-y : goal.overflow_add-p-in-loop-y
+overflow_add-p-in-loop-y c =
+    let l = c in
+    let g = group_fits_lem l.requires.0 l.loop-y.y (omega arith) in omega arith
+
+pub overflow_add-q : goal.overflow_add-q
+overflow_add-q c =
+    let l = c in
+    let g = group_fits_lem l.requires.0 l.loop-y.y (omega arith) in omega arith
 
 pub loop-y-preserved : goal.loop-y-preserved
 loop-y-preserved c =

@@ -6,17 +6,14 @@ use Prim.Native.Nat.{ℕ, ◌*◌}
 use Rattle.plane_pack_steps.proofs.GroupParts.{group_put}
 use Rattle.plane_pack_steps.proofs.next.Goals as goal
 
--- TODO no goal for overflow-mul-group
-mul-group : goal.Need-overflow-mul-group
-mul-group c = let a = c.args in omega (arith, ap (λ (i : ℕ). i * a.w) c.rows-r.ensures)
+pub overflow_mul-r : goal.overflow_mul-r
+overflow_mul-r c = let a = c.args in omega (arith, ap (λ (i : ℕ). i * a.w) c.rows-r.ensures)
 
--- TODO no goal for overflow-add-group-2
-add-group-2 : goal.Need-overflow-add-group-2
-add-group-2 c = let a = c.args in omega (arith, ap (λ (i : ℕ). i * a.w) c.rows-r.ensures)
+pub overflow_add-q : goal.overflow_add-q
+overflow_add-q c = let a = c.args in omega (arith, ap (λ (i : ℕ). i * a.w) c.rows-r.ensures)
 
--- TODO no goal for slice-bounds-group-end-2
-part-group-end-2 : goal.Need-slice-bounds-group-end-2
-part-group-end-2 c = let a = c.args in omega (arith, ap (λ (i : ℕ). i * a.w) c.rows-r.ensures)
+pub slice_bounds-group-end-2 : goal.slice_bounds-group-end-2
+slice_bounds-group-end-2 c = let a = c.args in omega (arith, ap (λ (i : ℕ). i * a.w) c.rows-r.ensures)
 
 pub returns : goal.returns
 returns c =

@@ -8,30 +8,28 @@ use Rattle.frame_grounds.proofs.Sides.{sides}
 use Rattle.put_calls.proofs.Fitting.{put_sides, put_done}
 use Rattle.put_calls.proofs.put.Goals as goal
 
--- TODO no goal for overflow-add-cut
-add-cut : goal.Need-overflow-add-cut
-add-cut c =
-    let k = c in
-    let t = k.put_refusal-tested in
-    let a = k.args in
-    let b = sides a.w a.h (put_sides a.w a.h a.frame.now a.image.now (no_refusal t.result _ k.in-Refused.keys2 t.ensures)) in
-    record { fits = omega arith }
-
--- TODO no goal for overflow-add-cut-2
-add-cut-2 : goal.Need-overflow-add-cut-2
-add-cut-2 c =
-    let k = c in
-    let t = k.put_refusal-tested in
-    let a = k.args in
-    let b = sides a.w a.h (put_sides a.w a.h a.frame.now a.image.now (no_refusal t.result _ k.in-Refused.keys2 t.ensures)) in
-    record { fits = omega arith }
-
 pub returns-in-Refused : goal.returns-in-Refused
 returns-in-Refused c =
     let t = c in
     let a = t.args in
     refused_call (put_tests a.w a.h a.frame.now a.image.now) t.put_refusal-tested.result _ t.put_refusal-tested.ensures c.in-Refused.is
     refl refl
+
+pub overflow_add-w : goal.overflow_add-w
+overflow_add-w c =
+    let k = c in
+    let t = k.put_refusal-tested in
+    let a = k.args in
+    let b = sides a.w a.h (put_sides a.w a.h a.frame.now a.image.now (no_refusal t.result _ k.in_default.in_default-own.keys2 t.ensures)) in
+    record { fits = omega arith }
+
+pub overflow_add-h : goal.overflow_add-h
+overflow_add-h c =
+    let k = c in
+    let t = k.put_refusal-tested in
+    let a = k.args in
+    let b = sides a.w a.h (put_sides a.w a.h a.frame.now a.image.now (no_refusal t.result _ k.in_default.in_default-own.keys2 t.ensures)) in
+    record { fits = omega arith }
 
 pub returns : goal.returns
 returns c =

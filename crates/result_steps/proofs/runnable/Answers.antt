@@ -14,18 +14,6 @@ use Rattle.result_steps.proofs.runnable.Goals as goal
 sized : (c : goal.Else-bad_size) → bad_size c.args.w c.args.h ≡ false
 sized c = sym c.bad_size.ensures ∙ c.if-bad_size.false
 
--- TODO no goal for overflow-add-size
-add-size : goal.Need-overflow-add-size
-add-size c = let b = sides c.args.w c.args.h (sized c) in record { fits = omega arith }
-
--- TODO no goal for overflow-add-size-2
-add-size-2 : goal.Need-overflow-add-size-2
-add-size-2 c = let b = sides c.args.w c.args.h (sized c) in record { fits = omega arith }
-
--- TODO no goal for overflow-mul-size
-mul-size : goal.Need-overflow-mul-size
-mul-size c = let b = small_grid c.args.w c.args.h (sized c) in record { fits = omega arith }
-
 pub returns-then-plan-lt2 : goal.returns-then-plan-lt2
 returns-then-plan-lt2 c = fails (λ q. omega (arith, q.words.0, c.if-plan-lt2.true))
 
@@ -40,6 +28,15 @@ returns-then-place-gt30-2 c = fails (λ q. omega (arith, q.down, c.if-place-gt30
 
 pub returns-then-bad_size : goal.returns-then-bad_size
 returns-then-bad_size c = fails (λ q. subst T (sym c.if-bad_size.true ∙ c.bad_size.ensures ∙ q.room.sides) tt)
+
+pub overflow_add-size : goal.overflow_add-size
+overflow_add-size c = let b = sides c.args.w c.args.h (sized c) in record { fits = omega arith }
+
+pub overflow_add-size-2 : goal.overflow_add-size-2
+overflow_add-size-2 c = let b = sides c.args.w c.args.h (sized c) in record { fits = omega arith }
+
+pub overflow_mul-size : goal.overflow_mul-size
+overflow_mul-size c = let b = small_grid c.args.w c.args.h (sized c) in record { fits = omega arith }
 
 pub returns-then-first-size : goal.returns-then-first-size
 returns-then-first-size c = fails (λ q. omega (arith, q.room.first, c.if-first-size.true))

@@ -4,25 +4,20 @@ use borrow.Author.Rules.{rules}
 use Rattle.rolling_calls.proofs.Putting.{before_rows, rows_end, rows_room, end_part, end_put}
 use Rattle.rolling_calls.proofs.end.Goals as goal
 
--- TODO no goal for overflow-add-rows
-add-rows : goal.Need-overflow-add-rows
-add-rows c = record { fits = omega (arith, c.requires.most) }
+pub overflow_add-a : goal.overflow_add-a
+overflow_add-a c = record { fits = omega (arith, c.requires.most) }
 
--- TODO no goal for overflow-mul-rows-3
-mul-rows-3 : goal.Need-overflow-mul-rows-3
-mul-rows-3 c = let R = c.requires in record { fits = omega (arith, before_rows R, rows_end R, R.few) }
+pub overflow_mul-b : goal.overflow_mul-b
+overflow_mul-b c = let R = c.requires in record { fits = omega (arith, before_rows R, rows_end R, R.few) }
 
--- TODO no goal for overflow-add-rows-2
-add-rows-2 : goal.Need-overflow-add-rows-2
-add-rows-2 c = let R = c.requires in record { fits = omega (arith, R.within, R.most) }
+pub overflow_add-b : goal.overflow_add-b
+overflow_add-b c = let R = c.requires in record { fits = omega (arith, R.within, R.most) }
 
--- TODO no goal for overflow-mul-rows-4
-mul-rows-4 : goal.Need-overflow-mul-rows-4
-mul-rows-4 c = let R = c.requires in record { fits = omega (arith, rows_end R, R.few) }
+pub overflow_mul-b-2 : goal.overflow_mul-b-2
+overflow_mul-b-2 c = let R = c.requires in record { fits = omega (arith, rows_end R, R.few) }
 
--- TODO no goal for slice-bounds-rows-end-2
-part-rows-end-2 : goal.Need-slice-bounds-rows-end-2
-part-rows-end-2 c = rows_room c.requires
+pub slice_bounds-rows-end-2 : goal.slice_bounds-rows-end-2
+slice_bounds-rows-end-2 c = rows_room c.requires
 
 pub returns : goal.returns
 returns c =

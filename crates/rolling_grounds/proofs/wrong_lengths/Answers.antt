@@ -12,15 +12,14 @@ use Rattle.grids.specs.Frame.{wrong_length}
 use Rattle.frame_grounds.proofs.Sides.{few_cells}
 use Rattle.rolling_grounds.proofs.wrong_lengths.Goals as goal
 
--- TODO no goal for overflow-mul-n
-mul-n : goal.Need-overflow-mul-n
-mul-n c =
+pub returns-then-bad_size : goal.returns-then-bad_size
+returns-then-bad_size c z = absurd (subst T (sym c.if1.true ∙ c.before.bad-size.ensures ∙ z) tt)
+
+pub overflow_mul-n : goal.overflow_mul-n
+overflow_mul-n c =
     let a = c.args in
     let l = few_cells a.w a.h (sym c.bad_size.ensures ∙ c.if-bad_size.false) in
     record { fits = omega arith }
-
-pub returns-then-bad_size : goal.returns-then-bad_size
-returns-then-bad_size c z = absurd (subst T (sym c.if1.true ∙ c.before.bad-size.ensures ∙ z) tt)
 
 pub returns-then-live-n : goal.returns-then-live-n
 returns-then-live-n c z =

@@ -5,9 +5,8 @@ use native.Mathlib.Omega.{arith}
 use borrow.Author.Rules.{rules}
 use Rattle.search_steps.proofs.too_many.Goals as goal
 
--- TODO no goal for overflow-add-result
-add-result : goal.Need-overflow-add-result
-add-result c =
+pub overflow_add-result : goal.overflow_add-result
+overflow_add-result c =
     let g = c.well-formed.0 in
     let a = array_below w8 c.args.need g.0 g.1.1 in
     omega (arith, a 16, a 17)

@@ -1,10 +1,6 @@
 use native.Mathlib.Omega.{arith}
 use Rattle.shapeplan.proofs.read_all.Goals as goal
 
--- TODO no goal for overflow-sub-turns
-sub-turns : goal.Need-overflow-sub-turns
-sub-turns c = omega arith
-
 pub nothing-requires : goal.nothing-requires
 nothing-requires c = tt
 
@@ -16,6 +12,9 @@ returns-then-not-input c = tt
 
 pub read_once-next-requires : goal.read_once-next-requires
 read_once-next-requires c = tt
+
+pub overflow_sub-turns : goal.overflow_sub-turns
+overflow_sub-turns c = omega arith
 
 pub loop-turns-smaller : goal.loop-turns-smaller
 loop-turns-smaller c = omega arith

@@ -24,34 +24,28 @@ few_bytes c =
     let v : c.args.w + 15 + 2 ≤ 257 = omega arith in
     mul-le-mul u v
 
--- TODO no goal for overflow-add-columns
-add-columns : goal.Need-overflow-add-columns
-add-columns c = let b = bounds c in record { fits = omega arith }
-
--- TODO no goal for overflow-add-rows
-add-rows : goal.Need-overflow-add-rows
-add-rows c = let b = bounds c in record { fits = omega arith }
-
--- TODO no goal for overflow-add-result
-add-result : goal.Need-overflow-add-result
-add-result c = let b = bounds c in record { fits = omega arith }
-
--- TODO no goal for overflow-add-result-3
-add-result-3 : goal.Need-overflow-add-result-3
-add-result-3 c = let b = bounds c in record { fits = omega arith }
-
--- TODO no goal for overflow-mul-result
-mul-result : goal.Need-overflow-mul-result
-mul-result c = record { fits = omega (arith, few_bytes c) }
-
--- TODO no goal for overflow-add-result-4
-add-result-4 : goal.Need-overflow-add-result-4
-add-result-4 c = record { fits = omega (arith, few_bytes c) }
-
 pub returns-then-bad_size : goal.returns-then-bad_size
 returns-then-bad_size c =
     let a = c.args in
     ap (λ b. cond b 0 (plane_size (a.w + 15) (a.h + 15))) (sym c.if-bad_size.true ∙ c.bad_size.ensures)
+
+pub overflow_add-columns : goal.overflow_add-columns
+overflow_add-columns c = let b = bounds c in record { fits = omega arith }
+
+pub overflow_add-rows : goal.overflow_add-rows
+overflow_add-rows c = let b = bounds c in record { fits = omega arith }
+
+pub overflow_add-result : goal.overflow_add-result
+overflow_add-result c = let b = bounds c in record { fits = omega arith }
+
+pub overflow_add-result-3 : goal.overflow_add-result-3
+overflow_add-result-3 c = let b = bounds c in record { fits = omega arith }
+
+pub overflow_mul-result : goal.overflow_mul-result
+overflow_mul-result c = record { fits = omega (arith, few_bytes c) }
+
+pub overflow_add-result-4 : goal.overflow_add-result-4
+overflow_add-result-4 c = record { fits = omega (arith, few_bytes c) }
 
 pub returns : goal.returns
 returns c = let a = c.args in ap (λ b. cond b 0 (plane_size (a.w + 15) (a.h + 15))) (sym (sized c))

@@ -8,19 +8,18 @@ use Rattle.rows.proofs.Known.{rows16}
 use Rattle.lists.proofs.Written.{Writing, writing_first, writing_row, writing_skip, writing_done, writing_none}
 use Rattle.word_steps.proofs.write_list.Goals as goal
 
--- TODO no goal for overflow-add-out-4
-add-out-4 : goal.Need-overflow-add-out-4
-add-out-4 c =
-    let st = c in
-    let b = (rows16 st.args.rows _ st.well-formed.1.1.0).words c.loop-y.y in
-    record { fits = omega arith }
-
 pub returns-then-out-lt17 : goal.returns-then-out-lt17
 returns-then-out-lt17 c = writing_none c.args.ax c.args.ay c.args.rows c.args.out.now (omega arith)
 
 pub loop-y-init : goal.loop-y-init
 loop-y-init c =
     (omega arith, search rules, writing_first c.args.ax c.args.ay c.args.rows c.args.out.now (omega arith))
+
+pub overflow_add-out-then-columns-gt0-2 : goal.overflow_add-out-then-columns-gt0-2
+overflow_add-out-then-columns-gt0-2 c =
+    let st = c in
+    let b = (rows16 st.args.rows _ st.well-formed.1.1.0).words c.loop-y.y in
+    record { fits = omega arith }
 
 pub loop-y-preserved : goal.loop-y-preserved
 loop-y-preserved c =

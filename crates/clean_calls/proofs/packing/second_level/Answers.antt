@@ -13,13 +13,11 @@ use Rattle.clean_calls.proofs.packing.second_level.Goals as goal
 at : (c : goal.After-plane_bytes-o) → c.plane_bytes-o.result ≡ plane_size (c.args.w + 15) (c.args.h + 15)
 at c = plane_is c.args.w c.args.h c.requires.sides c.plane_bytes-o.ensures
 
--- TODO no goal for overflow-sub-level
-sub-level : goal.Need-overflow-sub-level
-sub-level c = let a = c.args in second_starts (around a.op) a.w a.h a.frame.now c.requires (at c)
+pub slice_bounds-level-count : goal.slice_bounds-level-count
+slice_bounds-level-count c = let a = c.args in second_starts (around a.op) a.w a.h a.frame.now c.requires (at c)
 
--- TODO no goal for slice-bounds-level-start
-part-level-start : goal.Need-slice-bounds-level-start
-part-level-start c = let a = c.args in second_starts (around a.op) a.w a.h a.frame.now c.requires (at c)
+pub slice_bounds-level-start : goal.slice_bounds-level-start
+slice_bounds-level-start c = let a = c.args in second_starts (around a.op) a.w a.h a.frame.now c.requires (at c)
 
 pub level-requires : goal.level-requires
 level-requires c = let st = c in sides st.args.w st.args.h st.pre.sides

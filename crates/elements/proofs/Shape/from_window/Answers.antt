@@ -10,9 +10,18 @@ use Rattle.elements.specs.Standing.{Anchored}
 use Rattle.extents.specs.Extents.{row, column}
 use Rattle.elements.proofs.Shape.from_window.Goals as goal
 
--- TODO no goal for overflow-add-t9
-add-t9 : goal.Need-overflow-add-t9
-add-t9 c =
+pub returns-then-ax-gt15 : goal.returns-then-ax-gt15
+returns-then-ax-gt15 c = made_none _ _ _ (λ G. let h = G.in_x in let t = c.if-ax-gt15.true in omega arith) c.nothing.ensures
+
+pub returns-then-ay-gt15 : goal.returns-then-ay-gt15
+returns-then-ay-gt15 c = made_none _ _ _ (λ G. let h = G.in_y in let t = c.if-ay-gt15.true in omega arith) c.nothing-then-ay-gt15.ensures
+
+pub returns-then-empty : goal.returns-then-empty
+returns-then-empty c =
+    made_none _ _ _ (λ G. let s = G.some in (c.empty.ensures.0 c.if-empty.true).no s.x s.y s.cell) c.nothing-then-empty.ensures
+
+pub overflow_add-result : goal.overflow_add-result
+overflow_add-result c =
     let k = c in
     let e3 = k in
     let st = e3 in
@@ -24,9 +33,8 @@ add-t9 c =
     let l = least_x w.rows k.first_column_lem.result W I in
     omega arith
 
--- TODO no goal for overflow-cast-t11
-cast-t11 : goal.Need-overflow-cast-t11
-cast-t11 c =
+pub overflow_cast-result : goal.overflow_cast-result
+overflow_cast-result c =
     let k = c in
     let e3 = k in
     let st = e3 in
@@ -38,9 +46,8 @@ cast-t11 c =
     let l = least_y w.rows k.first_row-j.result W J in
     record { fits = omega arith }
 
--- TODO no goal for overflow-add-t12
-add-t12 : goal.Need-overflow-add-t12
-add-t12 c =
+pub overflow_add-result-2 : goal.overflow_add-result-2
+overflow_add-result-2 c =
     let k = c in
     let e3 = k in
     let st = e3 in
@@ -51,16 +58,6 @@ add-t12 c =
     let J = first_at row (At w.rows) k.first_row-j.result k.first_row-j.ensures some in
     let l = least_y w.rows k.first_row-j.result W J in
     omega arith
-
-pub returns-then-ax-gt15 : goal.returns-then-ax-gt15
-returns-then-ax-gt15 c = made_none _ _ _ (λ G. let h = G.in_x in let t = c.if-ax-gt15.true in omega arith) c.nothing.ensures
-
-pub returns-then-ay-gt15 : goal.returns-then-ay-gt15
-returns-then-ay-gt15 c = made_none _ _ _ (λ G. let h = G.in_y in let t = c.if-ay-gt15.true in omega arith) c.nothing-then-ay-gt15.ensures
-
-pub returns-then-empty : goal.returns-then-empty
-returns-then-empty c =
-    made_none _ _ _ (λ G. let s = G.some in (c.empty.ensures.0 c.if-empty.true).no s.x s.y s.cell) c.nothing-then-empty.ensures
 
 pub returns : goal.returns
 returns c =

@@ -7,9 +7,8 @@ use Rattle.end_steps.proofs.EndPlanes.{most, end_fits, end_rows}
 use borrow.Author.Rules.{rules}
 use Rattle.end_steps.proofs.parts.by_planes.Goals as goal
 
--- TODO no goal for overflow-sub-x
-sub-x : goal.Need-overflow-sub-x
-sub-x c = c.requires.0.whole.across
+pub overflow_sub-x : goal.overflow_sub-x
+overflow_sub-x c = c.requires.0.whole.across
 
 pub returns-then-n-eq0 : goal.returns-then-n-eq0
 returns-then-n-eq0 c =

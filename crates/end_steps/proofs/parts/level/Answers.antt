@@ -4,9 +4,8 @@ use native.Mathlib.Omega.{arith}
 use borrow.Author.Rules.{rules}
 use Rattle.end_steps.proofs.parts.level.Goals as goal
 
--- TODO no goal for overflow-add-pack
-add-pack : goal.Need-overflow-add-pack
-add-pack c = record { fits = omega (arith, most c.requires.0) }
+pub overflow_add-w : goal.overflow_add-w
+overflow_add-w c = record { fits = omega (arith, most c.requires.0) }
 
 pub returns : goal.returns
 returns c =

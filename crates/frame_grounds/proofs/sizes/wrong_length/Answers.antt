@@ -6,14 +6,13 @@ use native.Mathlib.Omega.{arith}
 use Rattle.frame_grounds.proofs.Sides.{few_cells}
 use Rattle.frame_grounds.proofs.sizes.wrong_length.Goals as goal
 
--- TODO no goal for overflow-mul-result
-mul-result : goal.Need-overflow-mul-result
-mul-result c =
-    let a = c.args in
-    omega (arith, few_cells a.w a.h (sym c.bad_size.ensures ∙ c.if-bad_size.false))
-
 pub returns-then-bad_size : goal.returns-then-bad_size
 returns-then-bad_size c z = absurd (subst T (sym c.if1.true ∙ c.before.bad-size.ensures ∙ z) tt)
+
+pub overflow_mul-result : goal.overflow_mul-result
+overflow_mul-result c =
+    let a = c.args in
+    omega (arith, few_cells a.w a.h (sym c.bad_size.ensures ∙ c.if-bad_size.false))
 
 pub returns : goal.returns
 returns c z = refl

@@ -9,19 +9,17 @@ use borrow.Author.Rules.{rules}
 use native.Mathlib.Omega.{arith}
 use Rattle.plane_stage_steps.proofs.bounds.pads.Goals as goal
 
--- TODO no goal for overflow-add-p
-add-p : goal.Need-overflow-add-p
-add-p c = let a = c.args in omega (arith, rows_apart a.s c.loop-r.r a.n (omega arith), c.loop-r.invariant.2.len)
-
--- TODO no goal for overflow-add-d
-add-d : goal.Need-overflow-add-d
-add-d c = let a = c.args in omega (arith, rows_apart a.s c.loop-r.r a.n (omega arith), c.loop-r.invariant.2.len)
-
 pub loop-r-init : goal.loop-r-init
 loop-r-init c = (omega arith, omega arith, padded_none _ _ _)
 
+pub overflow_add-p : goal.overflow_add-p
+overflow_add-p c = let a = c.args in omega (arith, rows_apart a.s c.loop-r.r a.n (omega arith), c.loop-r.invariant.2.len)
+
 pub bounds-d-p : goal.bounds-d-p
 bounds-d-p c = let a = c.args in omega (arith, rows_apart a.s c.loop-r.r a.n (omega arith), c.loop-r.invariant.2.len)
+
+pub overflow_add-d : goal.overflow_add-d
+overflow_add-d c = let a = c.args in omega (arith, rows_apart a.s c.loop-r.r a.n (omega arith), c.loop-r.invariant.2.len)
 
 pub bounds-d-p-in-loop-r : goal.bounds-d-p-in-loop-r
 bounds-d-p-in-loop-r c =

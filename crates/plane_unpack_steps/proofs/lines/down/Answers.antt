@@ -11,27 +11,24 @@ use borrow.Author.Rules.{rules}
 use native.Mathlib.Omega.{arith}
 use Rattle.plane_unpack_steps.proofs.lines.down.Goals as goal
 
--- TODO no goal for overflow-add-across
-add-across : goal.Need-overflow-add-across
-add-across c =
+pub loop-y-init : goal.loop-y-init
+loop-y-init c = (omega arith, omega arith, laid_none _)
+
+pub overflow_add-p : goal.overflow_add-p
+overflow_add-p c =
     let a = c.args in
     let l = c.loop-y in omega (arith, rows_apart a.w l.y a.h (omega arith), mul_comm a.w a.h, l.invariant.2.len)
 
--- TODO no goal for slice-bounds-across-end
-part-across-end : goal.Need-slice-bounds-across-end
-part-across-end c =
+pub slice_bounds-across-end : goal.slice_bounds-across-end
+slice_bounds-across-end c =
     let a = c.args in
     let l = c.loop-y in omega (arith, rows_apart a.w l.y a.h (omega arith), mul_comm a.w a.h, l.invariant.2.len)
 
--- TODO no goal for overflow-add-p
-add-p : goal.Need-overflow-add-p
-add-p c =
+pub overflow_add-p-in-loop-y : goal.overflow_add-p-in-loop-y
+overflow_add-p-in-loop-y c =
     let a = c.args in
     let l = c.loop-y in
     omega (arith, rows_apart a.w l.y a.h (omega arith), mul_comm a.w a.h, l.invariant.2.len)
-
-pub loop-y-init : goal.loop-y-init
-loop-y-init c = (omega arith, omega arith, laid_none _)
 
 pub loop-y-preserved : goal.loop-y-preserved
 loop-y-preserved c =

@@ -17,21 +17,17 @@ starts : (c : goal.After-plane_bytes-o) → let a = c.args in
 starts c =
     let a = c.args in second_starts a.op a.plan.now a.w a.h a.first.now a.second.now c.requires.1 (at c)
 
--- TODO no goal for overflow-sub-stages
-sub-stages : goal.Need-overflow-sub-stages
-sub-stages c = (starts c).0
+pub slice_bounds-stages-count : goal.slice_bounds-stages-count
+slice_bounds-stages-count c = (starts c).0
 
--- TODO no goal for slice-bounds-stages-start
-part-stages-start : goal.Need-slice-bounds-stages-start
-part-stages-start c = (starts c).0
+pub slice_bounds-stages-start : goal.slice_bounds-stages-start
+slice_bounds-stages-start c = (starts c).0
 
--- TODO no goal for overflow-sub-stages-2
-sub-stages-2 : goal.Need-overflow-sub-stages-2
-sub-stages-2 c = (starts c).1
+pub slice_bounds-stages-count-2 : goal.slice_bounds-stages-count-2
+slice_bounds-stages-count-2 c = (starts c).1
 
--- TODO no goal for slice-bounds-stages-start-2
-part-stages-start-2 : goal.Need-slice-bounds-stages-start-2
-part-stages-start-2 c = (starts c).1
+pub slice_bounds-stages-start-2 : goal.slice_bounds-stages-start-2
+slice_bounds-stages-start-2 c = (starts c).1
 
 pub returns : goal.returns
 returns c =

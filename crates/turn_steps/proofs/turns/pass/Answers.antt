@@ -5,23 +5,6 @@ use borrow.Author.Rules.{rules}
 use native.Mathlib.Omega.{arith}
 use Rattle.turn_steps.proofs.turns.pass.Goals as goal
 
--- TODO no goal for overflow-add-n
-add-n : goal.Need-overflow-add-n
-add-n c =
-    let at = c in
-    let st = at in
-    let l = st.requires.0 in
-    let e = at.loop-k.invariant.2.count in
-    record { fits = omega arith }
-
--- TODO no goal for overflow-add-k
-add-k : goal.Need-overflow-add-k
-add-k c =
-    let at = c in
-    let st = at in
-    let l = st.requires.0 in
-    record { fits = omega arith }
-
 pub loop-k-init : goal.loop-k-init
 loop-k-init c =
     let st = c in
@@ -32,6 +15,21 @@ turn-requires c =
     let m = c.loop-k.invariant.2 in
     let p = c.requires in
     (room_past p.1 m.first m.second, p.3)
+
+pub overflow_add-n : goal.overflow_add-n
+overflow_add-n c =
+    let at = c in
+    let st = at in
+    let l = st.requires.0 in
+    let e = at.loop-k.invariant.2.count in
+    record { fits = omega arith }
+
+pub overflow_add-k : goal.overflow_add-k
+overflow_add-k c =
+    let at = c in
+    let st = at in
+    let l = st.requires.0 in
+    record { fits = omega arith }
 
 pub loop-k-preserved : goal.loop-k-preserved
 loop-k-preserved c =
