@@ -20,6 +20,8 @@ DECLARED = re.compile(r"^ *" + MODS + r"(?:(record|data)\s+)?([^\s(){}.;,@\"«»
 SIGN = re.compile(r"[^\w'-]")
 # Lemmas that port.py respelled already, whose name a definition takes now.
 LEMMAS = "first_bit last_row too_far from_start held_place read_as second_at told_of".split()
+# A lemma that joins two names, as the library's of that name does.
+KEPT = {"eq-eqb"}
 # Words of the library that lemmas would take.
 LIBRARY = {"bit_and", "bit_or", "bit_xor"}
 # Private definitions of files that never name one another.
@@ -55,7 +57,7 @@ def collected(root):
 def table(root):
     found, names = collected(root), {}
     for name, places in found.items():
-        if name.startswith("◌") or not ("-" in name or (name[0].islower() and re.search(r"[a-z0-9][A-Z]", name))):
+        if name.startswith("◌") or name in KEPT or not ("-" in name or (name[0].islower() and re.search(r"[a-z0-9][A-Z]", name))):
             continue
         new = respelled(name, name[0].isupper() and any(it[1] for it in places))
         if new != name:

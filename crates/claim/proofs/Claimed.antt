@@ -8,7 +8,7 @@ use native.Mathlib.Omega.{arith}
 use lib.Dec.{T, eqb, eqb→eq}
 use lib.ListN.{length, take, drop}
 use borrow.Author.Tests.{ne_eqb}
-use Rattle.plane.proofs.Tests.{T_dec, clash, eq_eqb, not_ltb}
+use Rattle.plane.proofs.Tests.{T_dec, clash, eq-eqb, not_ltb}
 use Rattle.words.specs.Ground.{first_of, stated, refusal}
 use Rattle.words.specs.declared.Answer.{Answer}
 use Rattle.words.proofs.Refusals.{clear, unclear, clear_append, first_append, rest_append}
@@ -40,7 +40,7 @@ module _ (op : Operation) (ws : List ℕ) (W H : ℕ) (f i j own : List ℕ) (ro
       go : T (eqb (stated S.answer).0 0) ⊎ T (not (eqb (stated S.answer).0 0))
           → Stopped ⊎ Cleaned op (take (stated S.answer).1 S.own') W H f i j s i' j'
       go (inl t) = inr (S.cleans (eqb→eq (stated S.answer).0 0 t))
-      go (inr m) = inl (S.stops (λ e. clash (eqb (stated S.answer).0 0) m (eq_eqb e)))
+      go (inr m) = inl (S.stops (λ e. clash (eqb (stated S.answer).0 0) m (eq-eqb e)))
 
   -- ---- the images
 
@@ -68,7 +68,7 @@ module _ (op : Operation) (ws : List ℕ) (W H : ℕ) (f i j own : List ℕ) (ro
             second_size = r.second_size;
             second_past = r.second_past;
           }
-      ran c (inr m) = same ((demand1.cleaning op _ W H f i j s i' j' c).1 (λ e. clash (eqb (stated s).0 0) m (eq_eqb e)))
+      ran c (inr m) = same ((demand1.cleaning op _ W H f i j s i' j' c).1 (λ e. clash (eqb (stated s).0 0) m (eq-eqb e)))
 
       go : Stopped ⊎ Cleaned op (take (stated S.answer).1 S.own') W H f i j s i' j' → Lent W H i j (stated s) i' j'
       go (inl k) = same (k.1, k.2)

@@ -6,7 +6,7 @@ use mathlib.Core.List.{List}
 use Prim.Native.Nat.{ℕ}
 use lib.Dec.{T, eqb, eqb→eq}
 use Rattle.words.specs.declared.Answer.{Answer}
-use Rattle.plane.proofs.Tests.{T_dec, clash, eq_eqb}
+use Rattle.plane.proofs.Tests.{T_dec, clash, eq-eqb}
 use Rattle.words.specs.Ground.{Test, first_of, stated, result, Answered}
 use Rattle.words.proofs.Tested.{promised_number}
 use Rattle.words.specs.Word.{stage_mask}
@@ -45,7 +45,7 @@ plan_first ws out r out' a = go (T_dec (eqb n 0))
 
     go : T (eqb n 0) ⊎ T (not (eqb n 0)) → Says
     go (inl t) = let e = eqb→eq n 0 t in written e (a.done e)
-    go (inr k) = let q = a.refused (λ e. clash (eqb n 0) k (eq_eqb e)) in inl (ground q.0, λ _. q.1)
+    go (inr k) = let q = a.refused (λ e. clash (eqb n 0) k (eq-eqb e)) in inl (ground q.0, λ _. q.1)
 
 pub demand1 : Demand1
 demand1 = record {

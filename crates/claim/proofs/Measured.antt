@@ -11,7 +11,7 @@ use Rattle.cleaning.specs.declared.Operation.{Operation}
 use Rattle.cleaning.specs.declared.Operation.TheVariants.{Erosion, Opening, Closing}
 use Rattle.plane.specs.Extent.{span}
 use Rattle.plane.specs.Point.{◌+ᵖ◌, negᵖ, origin, Point, Cell}
-use Rattle.plane.proofs.Tests.{not_ltb, not_not, not_or, eq_eqb}
+use Rattle.plane.proofs.Tests.{not_ltb, not_not, not_or, eq-eqb}
 use Rattle.words.specs.Ground.{first_of, result}
 use Rattle.words.specs.Word.{stage_word}
 use Rattle.words.proofs.Refusals.{clear, unclear, clear_append}
@@ -79,7 +79,7 @@ row_accepted : (f i j : List ℕ) → T (not (bad_size (length f) 1)) → T (not
     → first_of (work_tests (length f) 1 f i j) ≡ 0
 unfolding work_tests
 row_accepted f i j b c h k =
-    let size = not_not (eqb W (W * 1)) (eq_eqb (times_one W)) in
+    let size = not_not (eqb W (W * 1)) (eq-eqb (times_one W)) in
     let images = (not_or (short_image W 1 i) (short_image W 1 j)).1 (not_ltb (length i) (grid_size W 1) h, not_ltb (length j) (grid_size W 1) k) in
     unclear (work_tests W 1 f i j) (b, (size, (c, (images, tt))))
   where

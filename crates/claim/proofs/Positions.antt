@@ -10,7 +10,7 @@ use Rattle.plane.specs.Lists.{In}
 use Rattle.plane.specs.Point.{Point, Cell, point, origin, ◌+ᵖ◌, ◌≐◌, moved}
 use Rattle.plane.proofs.Algebra.{≐_trans, ≐_sym, +ᵖ_cancel}
 use Rattle.plane.proofs.Member.{In-map}
-use Rattle.plane.proofs.Tests.{T_dec, clash, eq_eqb}
+use Rattle.plane.proofs.Tests.{T_dec, clash, eq-eqb}
 use Rattle.masks.specs.Mask.{Mask, mask_cells, mask_points, normal, normal_of, column_shift, row_shift, NormalPosition}
 use Rattle.masks.proofs.Cells.{Low, normal_low, stage_below, same_move}
 use Rattle.masks.proofs.Normal.{normal_move, normal_or_zero}
@@ -87,7 +87,7 @@ mask_once a b p q e = bits_ext 9 a b p q each
     same = same_points (AtMask a) (AtMask b) origin (≐_trans (mask_points_lem a) (≐_trans e (≐_sym (mask_points_lem b))))
 
     digit : (u v : ℕ) → (u % 2 ≡ 1 → v % 2 ≡ 1) → (v % 2 ≡ 1 → u % 2 ≡ 1) → u % 2 ≡ v % 2
-    digit u v f g = ⊎_elim (λ t. let e = eqb→eq (u % 2) 1 t in e ∙ sym (f e)) (λ t. zero (λ e. clash (eqb (u % 2) 1) t (eq_eqb e))) (T_dec (eqb (u % 2) 1))
+    digit u v f g = ⊎_elim (λ t. let e = eqb→eq (u % 2) 1 t in e ∙ sym (f e)) (λ t. zero (λ e. clash (eqb (u % 2) 1) t (eq-eqb e))) (T_dec (eqb (u % 2) 1))
       where
         zero : u % 2 ≢ 1 → u % 2 ≡ v % 2
         zero n = let w : v % 2 ≢ 1 = λ e. n (g e) in omega arith

@@ -8,7 +8,7 @@ use native.Mathlib.Nat.{sub-zero}
 use native.Mathlib.Omega.{arith}
 use lib.Dec.{T, eqb, eqb→eq}
 use lib.ListN.{length, take, drop, length-append, length-map}
-use Rattle.plane.proofs.Tests.{T_dec, clash, eq_eqb}
+use Rattle.plane.proofs.Tests.{T_dec, clash, eq-eqb}
 use Rattle.words.specs.Ground.{first_of, stated}
 use Rattle.words.specs.Word.{stage_word}
 use Rattle.words.specs.declared.Answer.{Answer}
@@ -48,7 +48,7 @@ module _ {ws own own' : List ℕ} (r : Answer) where
       go : T (eqb (first_of (planning_tests ws own)) 0) ⊎ T (not (eqb (first_of (planning_tests ws own)) 0)) → n ≤ length own'
       go (inl t) = written (p.done (eqb→eq (first_of (planning_tests ws own)) 0 t))
       go (inr t) =
-          let some : first_of (planning_tests ws own) ≢ 0 = λ z. clash (eqb (first_of (planning_tests ws own)) 0) t (eq_eqb z) in
+          let some : first_of (planning_tests ws own) ≢ 0 = λ z. clash (eqb (first_of (planning_tests ws own)) 0) t (eq-eqb z) in
           absurd (some (ap (λ s. s.0) (sym (p.refused some).0) ∙ done_zero e))
 
   module _ {op : Operation} {W H : ℕ} {f i j : List ℕ} where

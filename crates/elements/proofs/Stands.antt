@@ -10,7 +10,7 @@ use lib.ListN.{get_or}
 use Rattle.plane.specs.Lists.{In, bits, up_to}
 use Rattle.plane.specs.Point.{Point, Cell, point, ◌+ᵖ◌, ◌≐◌}
 use Rattle.plane.proofs.Member.{In-map, In-flat, In-keep, In-up_to}
-use Rattle.plane.proofs.Tests.{eq_eqb}
+use Rattle.plane.proofs.Tests.{eq-eqb}
 use Rattle.rows.specs.Cells.{At, Points, bit, Cells}
 use Rattle.rows.proofs.Sums.{Rows16, in_x, in_y}
 use Rattle.shapes.specs.Shape.{out_of_range}
@@ -29,7 +29,7 @@ cells_at rows w x y = (
       let ex : x ≡ s.0 = ap (λ c. c.0) s.2 in
       let ey : y ≡ r.0 = ap (λ c. c.1) s.2 in
       subst (λ (k : ℕ). At rows k y) (sym ex) (subst (λ (k : ℕ). At rows s.0 k) (sym ey) (eqb→eq (bit (get_or rows r.0 0) s.0) 1 t.1)),
-  λ h. let in_row = (In-keep (set y) (up_to 16) x).1 (In-up_to 16 x (in_x rows w x y h), eq_eqb h) in
+  λ h. let in_row = (In-keep (set y) (up_to 16) x).1 (In-up_to 16 x (in_x rows w x y h), eq-eqb h) in
       (In-flat line (up_to 16) c).1 (y, In-up_to 16 y (in_y rows w x y h), (In-map (λ k. (k, y)) (bits 16 (get_or rows y 0)) c).1 (x, in_row, refl)),
 )
   where

@@ -7,7 +7,7 @@ use Prim.Native.Nat.{ℕ, ◌+◌, ◌-◌, ◌*◌, ◌%◌, ◌≤◌, ◌<◌
 use native.Mathlib.Omega.{arith}
 use native.Mathlib.Nat.{mul_comm, mul-le-mul, mul-le-mul_right, add-mul}
 use lib.Dec.{T, eqb, ltb}
-use borrow.Author.Tests.{eq_eqb, lt-ltb, le-ltb}
+use borrow.Author.Tests.{eq-eqb, lt-ltb, le-ltb}
 use lib.IntN.{ℤ, pos, neg_ℤ, ◌+ℤ◌, ◌-ℤ◌, +ℤ_assoc}
 use lib.ListN.{length, get_or, drop, length-append, length-drop, get_or-append}
 use borrow.Rule.Slice.PartMut.{mid_of, put_mid}
@@ -71,7 +71,7 @@ cond_front false l p q s = shows_front q.size (λ k h. q.front k (omega arith)) 
 -- ---- what the greatest number among the cells tells
 
 right_length : (W e : ℕ) (part : List ℕ) → length part ≡ e * W → wrong_length W e part ≡ false
-right_length W e part s = ap not (eq_eqb (length part) (W * e) (s ∙ mul_comm e W))
+right_length W e part s = ap not (eq-eqb (length part) (W * e) (s ∙ mul_comm e W))
 
 module _ (W e : ℕ) (part : List ℕ) {g : ℕ} (s : bad_size W e ≡ false) (z : length part ≡ e * W) (q : g ≡ greatest_cell W e part) where
   decides : bad_cell part ≡ ltb highest g

@@ -12,7 +12,7 @@ use lib.Dec.{T, eqb, eqb→eq}
 use lib.ListN.{length}
 use Rattle.plane.specs.Lists.{keep}
 use Rattle.plane.proofs.Member.{length_keep}
-use Rattle.plane.proofs.Tests.{T_dec, clash, eq_eqb}
+use Rattle.plane.proofs.Tests.{T_dec, clash, eq-eqb}
 use Rattle.words.specs.Ground.{first_of}
 use Rattle.words.proofs.Refusals.{clear, ground_small, ground_once}
 use Rattle.grids.specs.Frame.{full, unmeasured, load}
@@ -99,7 +99,7 @@ shared_once W H f a b p q = told_once a b (go (T_dec (eqb n 0)))
     go : T (eqb n 0) ⊎ T (not (eqb n 0)) → told a ≡ told b
     go (inl t) = let e = eqb→eq n 0 t in share_told f a (p.done e) ∙ sym (share_told f b (q.done e))
     go (inr t) =
-        let some : first_of (share_tests W H f) ≢ 0 = λ e. clash (eqb n 0) t (eq_eqb e) in
+        let some : first_of (share_tests W H f) ≢ 0 = λ e. clash (eqb n 0) t (eq-eqb e) in
         (p.refused some).0 ∙ sym (q.refused some).0
 
 -- ---- a frame that no ground refuses can be divided

@@ -13,7 +13,7 @@ use lib.Seq.{drop-cons, get_or-set_same, get_or-set_other}
 use Rattle.plane.specs.Lists.{In, flat, up_to, bits}
 use Rattle.plane.specs.Point.{Cell}
 use Rattle.plane.proofs.Member.{In-append, In-map, In-keep, In-up_to, up_to_In}
-use Rattle.plane.proofs.Tests.{eq_eqb}
+use Rattle.plane.proofs.Tests.{eq-eqb}
 use Rattle.words.specs.Read.{word_of}
 use Rattle.words.specs.declared.Word.TheVariants.{Row}
 use Rattle.rows.specs.Cells.{Same, At, bit}
@@ -47,7 +47,7 @@ row_cells_lem y c x v = (
         (subst (λ n. n < 16) (sym e) (up_to_In 16 r.0 k.0), subst (λ n. bit c n ≡ 1) (sym e) (eqb→eq (bit c r.0) 1 k.1)),
       ),
   λ h. (In-map cell (bits 16 c) (x, v)).1
-      (x, (In-keep (λ i. eqb (bit c i) 1) (up_to 16) x).1 (In-up_to 16 x h.1.0, eq_eqb h.1.1), ap (λ (n : ℕ). cell_at n) h.0),
+      (x, (In-keep (λ i. eqb (bit c i) 1) (up_to 16) x).1 (In-up_to 16 x h.1.0, eq-eqb h.1.1), ap (λ (n : ℕ). cell_at n) h.0),
 )
   where
     cell : ℕ → Cell

@@ -11,7 +11,7 @@ use Rattle.plane.specs.Lists.{In, keep, up_to, bits, packed}
 use Rattle.plane.specs.Point.{Point, Cell, point, ◌-ᵖ◌}
 use Rattle.plane.proofs.Bits.{packed_below, bits_packed}
 use Rattle.plane.proofs.Member.{In-any, In-keep, In-up_to, up_to_In}
-use Rattle.plane.proofs.Tests.{eq_eqb, same_test, lt_or_le}
+use Rattle.plane.proofs.Tests.{eq-eqb, same_test, lt_or_le}
 use Rattle.words.specs.Word.{anchor_word, row_word}
 use Rattle.rows.specs.Cells.{At, bit}
 use Rattle.rows.proofs.RowBits.{bits_ext, no_bit}
@@ -25,7 +25,7 @@ use Rattle.lists.proofs.Written.{filled}
 -- a bit of a packed number is what it was packed from
 bit_packed : (b : ℕ → Bool) (x : ℕ) → x < 16 → (bit (packed b 0 16) x ≡ 1) ↔ T (b x)
 bit_packed b x l = (
-  λ h. (whole.0 ((In-keep (λ k. eqb (bit (packed b 0 16) k) 1) (up_to 16) x).1 (In-up_to 16 x l, eq_eqb h))).1,
+  λ h. (whole.0 ((In-keep (λ k. eqb (bit (packed b 0 16) k) 1) (up_to 16) x).1 (In-up_to 16 x l, eq-eqb h))).1,
   λ t. eqb→eq (bit (packed b 0 16) x) 1 ((In-keep (λ k. eqb (bit (packed b 0 16) k) 1) (up_to 16) x).0 (whole.1 (l, t))).1,
 )
   where

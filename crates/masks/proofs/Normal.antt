@@ -12,7 +12,7 @@ use Rattle.plane.specs.Lists.{In, all, up_to, keep}
 use Rattle.plane.specs.Point.{Point, ◌+ᵖ◌, ◌-ᵖ◌, ◌≐◌, moved, Cell, point}
 use Rattle.plane.proofs.Algebra.{+ᵖ_cancel, subᵖ_cancel}
 use Rattle.plane.proofs.Member.{In-map, each_below}
-use Rattle.plane.proofs.Tests.{T_and, T_or, eq_eqb}
+use Rattle.plane.proofs.Tests.{T_and, T_or, eq-eqb}
 use Rattle.masks.specs.Mask.{mask_cells, stage, Mask, normal_of, column_shift, row_shift, normal, NormalPosition}
 
 -- ---- the same cells in the same order
@@ -118,7 +118,7 @@ normal_or_zero m h = go ((T_or (eqb m 0 && eqb n 0) (not (eqb m 0) && single n))
     go (inr t) =
         let u = (T_and (not (eqb m 0)) (single n)).0 t in
         let v = (T_and (normal n) (eqb n 1 || stage n)).0 u.1 in
-        inr ((λ e. T_not (eqb m 0) u.0 (eq_eqb e)), v.0, which ((T_or (eqb n 1) (stage n)).0 v.1))
+        inr ((λ e. T_not (eqb m 0) u.0 (eq-eqb e)), v.0, which ((T_or (eqb n 1) (stage n)).0 v.1))
 
 -- the rule, whole
 pub normal_position : (m : ℕ) → m < 512 → NormalPosition m (normal_of m)

@@ -9,7 +9,7 @@ use native.Mathlib.Omega.{arith}
 use lib.Dec.{T, ltb, eqb, eqb→eq, ltb→lt, nltb→le, T_not, not_T}
 use lib.ListN.{length}
 use Rattle.plane.specs.Point.{Point, PointSet}
-use Rattle.plane.proofs.Tests.{not_or, T_and, T_or, eq_eqb, not_ltb}
+use Rattle.plane.proofs.Tests.{not_or, T_and, T_or, eq-eqb, not_ltb}
 use Rattle.masks.specs.Chain.{smaller, before, Picked}
 
 -- not smaller either way: the same, for lists of one length
@@ -27,13 +27,13 @@ same_length (a ∷ ms) (b ∷ ns) e t u =
     ap₂ (λ x xs. x ∷ xs) q (same_length ms ns l (rest a b (smaller ms ns) q v.1) (rest b a (smaller ns ms) (sym q) w.1))
   where
     rest : (a b : ℕ) (s : Bool) → a ≡ b → T (not (eqb a b && s)) → T (not s)
-    rest a b s q t = not_T s (λ r. T_not (eqb a b && s) t ((T_and (eqb a b) s).1 (eq_eqb q, r)))
+    rest a b s q t = not_T s (λ r. T_not (eqb a b && s) t ((T_and (eqb a b) s).1 (eq-eqb q, r)))
 
 -- ms does not come before ns: it has no fewer stages, and where it has as many it is not smaller
 not_before : (ms ns : List ℕ) → T (not (before ms ns)) ↔ ((length ns ≤ length ms) × (length ms ≡ length ns → T (not (smaller ms ns))))
 not_before ms ns = (
   λ t. let u = (not_or fewer tied).0 t in
-      (nltb→le (length ms) (length ns) u.0, λ e. not_T less (λ s. T_not tied u.1 ((T_and equal less).1 (eq_eqb e, s)))),
+      (nltb→le (length ms) (length ns) u.0, λ e. not_T less (λ s. T_not tied u.1 ((T_and equal less).1 (eq-eqb e, s)))),
   λ h. (not_or fewer tied).1 (
     not_ltb (length ms) (length ns) h.0,
     not_T tied (λ t. let u = (T_and equal less).0 t in T_not less (h.1 (eqb→eq (length ms) (length ns) u.0)) u.1),

@@ -4,7 +4,7 @@ use mathlib.Core.Logic.{◌≢◌}
 use mathlib.Core.Bool.{Bool, true, false, cond, not, ◌||◌}
 use Prim.Native.Nat.{ℕ, ◌*◌, ◌/◌, ◌%◌, ◌^◌, ◌<◌}
 use lib.Dec.{T, eqb, eqb→eq}
-use borrow.Author.Tests.{eq_eqb, ne_eqb}
+use borrow.Author.Tests.{eq-eqb, ne_eqb}
 use Rattle.plane.specs.Lists.{all, up_to}
 use Rattle.plane.proofs.Member.{each_below}
 use Rattle.masks.specs.Mask.{mask_cells, has_column, column_shift, row_shift, normal_of}
@@ -60,7 +60,7 @@ module _ (m : ℕ) (h : m < 512) where
   row_step e =
       let t = each_below row_right 512 rows_tested m h in
       eqb→eq (rows_down (m / 8)) (rows_down m)
-      (subst (λ b. T (cond b (eqb (rows_down (m / 8)) (rows_down m)) (eqb (rows_down m) m))) (eq_eqb (m % 8) 0 e) t)
+      (subst (λ b. T (cond b (eqb (rows_down (m / 8)) (rows_down m)) (eqb (rows_down m) m))) (eq-eqb (m % 8) 0 e) t)
 
   pub row_stop : m % 8 ≢ 0 → rows_down m ≡ m
   unfolding row_right

@@ -5,7 +5,7 @@ use mathlib.Core.List.{List, []}
 use Prim.Native.Nat.{ℕ, ◌*◌, ◌%◌, zero-le}
 use lib.Dec.{ltb}
 use lib.ListN.{length, take}
-use borrow.Author.Tests.{eq_eqb, ne_eqb, le-ltb}
+use borrow.Author.Tests.{eq-eqb, ne_eqb, le-ltb}
 use Rattle.grids.specs.Frame.{bad_size}
 use Rattle.cleaning.specs.Cleaning.{part}
 
@@ -17,7 +17,7 @@ starts false m n i r e q = q ∙ ap (λ k. cond (ltb (length i) k) [] (take k i)
 module _ (n W H : ℕ) (i j : List ℕ) {k : ℕ} {r : List ℕ} (e : k ≡ cond (bad_size W H) 0 (W * H)) where
   pub of_second : n % 2 ≡ 0 → r ≡ cond (ltb (length j) k) [] (take k j) → r ≡ part n W H i j
   unfolding part
-  of_second p q = rw (eq_eqb (n % 2) 0 p) (starts (bad_size W H) (W * H) k j r e q)
+  of_second p q = rw (eq-eqb (n % 2) 0 p) (starts (bad_size W H) (W * H) k j r e q)
 
   pub of_first : (n % 2 ≡ 0 → ⊥) → r ≡ cond (ltb (length i) k) [] (take k i) → r ≡ part n W H i j
   unfolding part

@@ -11,7 +11,7 @@ use lib.Dec.{T, eqb, eqb→eq}
 use lib.ListN.{length}
 use Rattle.plane.specs.Lists.{In, bits, up_to, packed}
 use Rattle.plane.proofs.Member.{In-keep, up_to_In, In-up_to}
-use Rattle.plane.proofs.Tests.{eq_eqb, same_test}
+use Rattle.plane.proofs.Tests.{eq-eqb, same_test}
 
 -- one bit more below
 half : (c : Bool) (r : ℕ) → (cond c 1 0 + 2 * r) / 2 ≡ r
@@ -73,7 +73,7 @@ bits_packed b n q x = (
   λ h. let r = (In-keep set (up_to n) x).0 h in
       let l = up_to_In n x r.0 in
       (l, one_true (b x) (sym (digit l) ∙ eqb→eq (w / 2 ^ x % 2) 1 r.1)),
-  λ h. (In-keep set (up_to n) x).1 (In-up_to n x h.0, eq_eqb (digit h.0 ∙ true_one (b x) h.1)),
+  λ h. (In-keep set (up_to n) x).1 (In-up_to n x h.0, eq-eqb (digit h.0 ∙ true_one (b x) h.1)),
 )
   where
     w : ℕ
@@ -123,13 +123,13 @@ no_bits n w = same_test (eqb (length (bits n w)) 0) (eqb (w % 2 ^ n) 0) to from
     some (y ∷ xs) x e h = omega arith
 
     to : T (eqb (length (bits n w)) 0) → T (eqb (w % 2 ^ n) 0)
-    to t = eq_eqb (low_zero n w (λ k l. even_digit (w / 2 ^ k) (λ e. some (bits n w) k (eqb→eq (length (bits n w)) 0 t) (has k l e))))
+    to t = eq-eqb (low_zero n w (λ k l. even_digit (w / 2 ^ k) (λ e. some (bits n w) k (eqb→eq (length (bits n w)) 0 t) (has k l e))))
       where
         has : (k : ℕ) → k < n → w / 2 ^ k % 2 ≡ 1 → In (bits n w) k
-        has k l e = (In-keep set (up_to n) k).1 (In-up_to n k l, eq_eqb e)
+        has k l e = (In-keep set (up_to n) k).1 (In-up_to n k l, eq-eqb e)
 
     from : T (eqb (w % 2 ^ n) 0) → T (eqb (length (bits n w)) 0)
-    from t = eq_eqb (none (bits n w) (λ k h. let r = (In-keep set (up_to n) k).0 h in clear k (up_to_In n k r.0) (eqb→eq (w / 2 ^ k % 2) 1 r.1)))
+    from t = eq-eqb (none (bits n w) (λ k h. let r = (In-keep set (up_to n) k).0 h in clear k (up_to_In n k r.0) (eqb→eq (w / 2 ^ k % 2) 1 r.1)))
       where
         split : w ≡ 2 ^ n * (w / 2 ^ n) + 0
         split = sym (div-add-mod w (2 ^ n)) ∙ ap (λ x. 2 ^ n * (w / 2 ^ n) + x) (eqb→eq (w % 2 ^ n) 0 t)

@@ -60,8 +60,8 @@ pub cond_ind : {A : Type 0} (b : Bool) (x y : A) (P : A → Type 0) → (T b →
 cond_ind true x y P f g = f tt
 cond_ind false x y P f g = g tt
 
-pub eq_eqb : {m n : ℕ} → m ≡ n → T (eqb m n)
-eq_eqb {m} {n} e = subst (λ k. T (eqb m k)) e (eqb_refl m)
+pub eq-eqb : {m n : ℕ} → m ≡ n → T (eqb m n)
+eq-eqb {m} {n} e = subst (λ k. T (eqb m k)) e (eqb_refl m)
 
 pub not_leb : (m n : ℕ) → n < m → T (not (leb m n))
 not_leb m n h = not_T (leb m n) (λ t. let k = leb→le m n t in omega arith)

@@ -7,7 +7,7 @@ use Prim.Native.Nat.{ℕ, ◌+◌, ◌-◌, ◌*◌, ◌%◌, ◌^◌, max, ◌<
 use native.Mathlib.Omega.{arith}
 use lib.Dec.{ltb, eqb}
 use lib.ListN.{length, get_or}
-use borrow.Author.Tests.{lt-ltb, le-ltb, eq_eqb, ne_eqb}
+use borrow.Author.Tests.{lt-ltb, le-ltb, eq-eqb, ne_eqb}
 use borrow.Rule.Slice.PartMut.{mid_of}
 use Rattle.plane.proofs.Tests.{lt_or_le}
 use Rattle.rows.specs.Cells.{bit}
@@ -67,7 +67,7 @@ module _ (some : Bool) (s : List ℕ) (w r v : ℕ) where
         let m : q ≡ j = omega arith in
         let p : few_bit some s w r v j k q ≡ bit (v * 2 ^ r % 256) q = rw (le-ltb q j u) in
         let n : few_bit some s w r v (j + 1) k q ≡ level_bit some (get_or s (q * w + k) 0) = rw (lt-ltb q (j + 1) (omega arith)) in
-        let z : cond (eqb q j) (level_bit some c) 0 ≡ level_bit some c = rw (eq_eqb q j m) in
+        let z : cond (eqb q j) (level_bit some c) 0 ≡ level_bit some c = rw (eq-eqb q j m) in
         second_of (e ∙ p ∙ up_out v r q (omega arith) lq) (z ∙ ap (level_bit some) (row k h) ∙ ap (λ (i : ℕ). level_bit some (get_or s (i * w + k) 0)) (sym m))
         ∙ sym n)
         (lt_or_le j q))

@@ -6,7 +6,7 @@ use Prim.Native.Nat.{ℕ, ◌-◌, ◌*◌, ◌%◌, ◌^◌, max, ◌<◌, ◌�
 use native.Mathlib.Omega.{arith}
 use lib.Bits.{bit_or}
 use lib.Dec.{eqb}
-use borrow.Author.Tests.{eq_eqb, ne_eqb}
+use borrow.Author.Tests.{eq-eqb, ne_eqb}
 use Rattle.plane.proofs.Tests.{lt_or_le}
 use Rattle.rows.specs.Cells.{bit}
 use Rattle.rows.proofs.RowBits.{bit_or_lem, bit_past}
@@ -20,7 +20,7 @@ moved c j q b l u = ⊎_elim
     (λ (h : q < j). up_out c j q h u ∙ rw (ne_eqb q j (λ e. omega arith)))
     (λ (h : j ≤ q). up_in c j q h u ∙ ⊎_elim
     (λ (g : j < q). bit_past 1 c (q - j) (omega arith) (omega arith) ∙ rw (ne_eqb q j (λ e. omega arith)))
-    (λ (g : q ≤ j). let e : q - j ≡ 0 = omega arith in rw (e, eq_eqb q j (omega arith)) (omega arith))
+    (λ (g : q ≤ j). let e : q - j ≡ 0 = omega arith in rw (e, eq-eqb q j (omega arith)) (omega arith))
     (lt_or_le j q))
     (lt_or_le q j)
 

@@ -7,7 +7,7 @@ use Prim.Native.Nat.{ℕ, zero, suc, ◌*◌, ◌<◌, ◌≤◌}
 use native.Mathlib.Omega.{arith}
 use lib.Dec.{ltb, eqb}
 use lib.ListN.{length, get_or}
-use borrow.Author.Tests.{lt-ltb, le-ltb, eq_eqb, ne_eqb, le-leb, lt-leb}
+use borrow.Author.Tests.{lt-ltb, le-ltb, eq-eqb, ne_eqb, le-leb, lt-leb}
 use Rattle.plane.proofs.Tests.{lt_or_le}
 use Rattle.rows.specs.Cells.{bit}
 use Rattle.rows.proofs.RowBits.{bit_cut, no_bit}
@@ -48,7 +48,7 @@ top_bits some v s {d₁ = d₁} hv a b = record {
         omega arith)
         (λ (u : 7 ≤ q).
         let x : bit (get_or d₁ k 0) q ≡ 0 = e ∙ rw (le-ltb q 7 u) in
-        let y : cond (eqb q 7) (level_bit some (get_or s k 0)) 0 ≡ level_bit some (get_or s k 0) = rw (eq_eqb q 7 (omega arith)) in
+        let y : cond (eqb q 7) (level_bit some (get_or s k 0)) 0 ≡ level_bit some (get_or s k 0) = rw (eq-eqb q 7 (omega arith)) in
         let z : top_bit some s v k q ≡ level_bit some (get_or s k 0) = rw (le-ltb q 7 u) in
         omega arith)
         (lt_or_le q 7)

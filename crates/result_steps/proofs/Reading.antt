@@ -5,7 +5,7 @@ use mathlib.Core.Bool.{Bool}
 use mathlib.Core.List.{List}
 use Prim.Native.Nat.{ℕ, suc, ◌+◌, ◌-◌, ◌*◌, ◌%◌, ◌≤◌, ◌<◌}
 use native.Mathlib.Omega.{arith}
-use borrow.Author.Tests.{eq_eqb, ne_eqb}
+use borrow.Author.Tests.{eq-eqb, ne_eqb}
 use lib.IntN.{ℤ, pos, negsuc, neg_ℤ, ◌-ℤ◌}
 use Rattle.plane.specs.Point.{Point, ◌+ᵖ◌, negᵖ}
 use Rattle.plane.proofs.Algebra.{+ᵖ_assoc, +ᵖ_origin, subᵖ_cancel}
@@ -80,7 +80,7 @@ module _ {two : Bool} {op : Operation} (place : ℕ) {o v W H t a b : ℕ} {i j 
       → t % 2 ≡ 0
       → j' ≡ over_front (W * H) (cut_at o v W H a b i) j
       → CutAway two op place W H t i j i j'
-  away_first p q r l e c = let z = eq_eqb (t % 2) 0 e in record { from = rw z; to = rw (z, sym p, sym q, sym r, sym l) c }
+  away_first p q r l e c = let z = eq-eqb (t % 2) 0 e in record { from = rw z; to = rw (z, sym p, sym q, sym r, sym l) c }
 
   pub away_second : {i' : List ℕ} → a ≡ distance op (place_x place) → b ≡ distance op (place_y place) → v ≡ outside_of (around op)
       → o ≡ second_at two (W + 15) (H + 15)

@@ -11,7 +11,7 @@ use lib.IntN.{pos, nat_abs}
 use lib.ListN.{get_or}
 use Rattle.plane.specs.Lists.{In}
 use Rattle.plane.specs.Point.{Point}
-use Rattle.plane.proofs.Tests.{T_dec, T_true, T_false, clash, eq_eqb}
+use Rattle.plane.proofs.Tests.{T_dec, T_true, T_false, clash, eq-eqb}
 use Rattle.words.specs.Ground.{first_of, stated, result}
 use Rattle.words.specs.declared.Answer.{Answer}
 use Rattle.words.specs.declared.Answer.TheVariants.{Done}
@@ -126,7 +126,7 @@ arrived_once plan W H row live kept s t l k l' k' a b = go (T_dec (eqb n 0))
         let f = rolled_once (plan_points plan) W H row live kept l k l' k' (a.done e).1 (b.done e).1 in
         (stated_once s t ((a.done e).0 ∙ sym (b.done e).0), f.0, f.1)
     go (inr u) =
-        let z : ¬ (n ≡ 0) = λ e. clash (eqb n 0) u (eq_eqb e) in
+        let z : ¬ (n ≡ 0) = λ e. clash (eqb n 0) u (eq-eqb e) in
         let f = a.refused z in
         let g = b.refused z in
         (stated_once s t (f.0 ∙ sym g.0), f.1.0 ∙ sym g.1.0, f.1.1 ∙ sym g.1.1)

@@ -13,7 +13,7 @@ use lib.ListN.{length, get_or, drop, length-append, length-drop, length-replicat
 use lib.Seq.{drop-append-le, drop-drop}
 use Rattle.plane.specs.Lists.{In, keep, flat}
 use Rattle.plane.specs.Point.{Point}
-use Rattle.plane.proofs.Tests.{T_dec, T_true, T_false, clash, eq_eqb, not_or, not_ltb, not_not}
+use Rattle.plane.proofs.Tests.{T_dec, T_true, T_false, clash, eq-eqb, not_or, not_ltb, not_not}
 use Rattle.words.specs.Ground.{first_of}
 use Rattle.shapes.specs.Plan.{plan_points, plan_tests}
 use Rattle.grids.specs.Frame.{free, highest, frame, bad_side, bad_size, wrong_length, bad_cell}
@@ -81,7 +81,7 @@ only_row plan W H row live kept g k =
     ap₂ (λ b c. eqb (first_of (plan_tests plan ++ (11, bad_size W H) ∷ (12, b) ∷ (15, wrong_row W row) ∷ (13, c) ∷ [])) 0) lengths bytes
   where
     long : (f : List ℕ) → Good W H f → T (not (wrong_length W H f))
-    long f e = not_not (eqb (length f) (W * H)) (eq_eqb e.size)
+    long f e = not_not (eqb (length f) (W * H)) (eq-eqb e.size)
 
     lengths : (wrong_length W H live || wrong_length W H kept) ≡ false
     lengths = T_false (wrong_length W H live || wrong_length W H kept) ((not_or (wrong_length W H live) (wrong_length W H kept)).1 (long live g, long kept k))
@@ -144,7 +144,7 @@ presents plan W H (row ∷ rows) live kept live' kept' g k a = go (λ u v. prese
         ∙ ap (λ f. after W f t) R.shown ∙ after_one W live row t (room W H row live kept A)
         ∙ ap (λ c. after W live (cond c (row ∷ t) t)) (sym (T_true b u))
     go rest (inr u) =
-        let f = first.refused (λ e. clash b u (subst T (only_row plan W H row live kept g k) (eq_eqb e))) in
+        let f = first.refused (λ e. clash b u (subst T (only_row plan W H row live kept g k) (eq-eqb e))) in
         rest (subst (Good W H) (sym f.1.0) g) (subst (Good W H) (sym f.1.1) k)
         ∙ ap (λ f. after W f t) f.1.0 ∙ ap (λ c. after W live (cond c (row ∷ t) t)) (sym (T_false b u))
 

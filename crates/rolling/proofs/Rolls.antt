@@ -13,7 +13,7 @@ use lib.ListN.{length, get_or, take, drop, replicate, length-drop, length-replic
 use lib.Seq.{get_or-drop}
 use Rattle.plane.specs.Lists.{In}
 use Rattle.plane.specs.Point.{Point, PointSet, ◌-ᵖ◌}
-use Rattle.plane.proofs.Tests.{T_and, T_dec, clash, cond_ind, un_not, eq_eqb, not_or, lt_or_le}
+use Rattle.plane.proofs.Tests.{T_and, T_dec, clash, cond_ind, un_not, eq-eqb, not_or, lt_or_le}
 use Rattle.words.specs.Ground.{first_of, stated}
 use Rattle.words.proofs.Refusals.{clear}
 use Rattle.shapes.specs.Plan.{plan_points, plan_tests, plan_words}
@@ -147,7 +147,7 @@ step plan W H row live kept s live' kept' a D = go (T_dec (eqb (first_of (arriva
         let e = eqb→eq n 0 t in
         rolled_right (plan_points plan) W H row live kept live' kept' (call_accepted plan W H row live kept e) (a.done e).1 D
     go (inr t) =
-        let u = a.refused (λ e. clash (eqb n 0) t (eq_eqb e)) in
+        let u = a.refused (λ e. clash (eqb n 0) t (eq-eqb e)) in
         subst (λ l. Right W H A l kept') (sym u.1.0) (subst (λ k. Right W H A live k) (sym u.1.1) D)
 
 -- ---- the claim

@@ -12,7 +12,7 @@ use Rattle.plane.specs.Lists.{In, bits, up_to}
 use Rattle.plane.specs.Point.{Point, Cell, point, ◌+ᵖ◌, ◌-ᵖ◌, origin, ◌≐◌, ◌⊕◌, ◌⊖◌}
 use Rattle.plane.proofs.Algebra.{+ᵖ_cancel, +ᵖ_assoc, +ᵖ_left, +ᵖ_origin, ≐_trans, ≐_sym, ⊕_cong}
 use Rattle.plane.proofs.Member.{In-map, In-keep, In-up_to, up_to_In}
-use Rattle.plane.proofs.Tests.{eq_eqb}
+use Rattle.plane.proofs.Tests.{eq-eqb}
 use Rattle.masks.specs.Chain.{sum_of}
 use Rattle.masks.specs.Mask.{mask_cells, Mask}
 use Rattle.masks.proofs.Sum.{sum_cons}
@@ -106,7 +106,7 @@ mask_cells_lem m i j = (
       let x : (3 * j + i) % 3 ≡ i = omega arith in
       let y : (3 * j + i) / 3 ≡ j = omega arith in
       let l : 3 * j + i < 9 = omega arith in
-      (In-map place (bits 9 m) (i, j)).1 (3 * j + i, (In-keep set (up_to 9) (3 * j + i)).1 (In-up_to 9 (3 * j + i) l, eq_eqb c.set), λ t. (sym x t, sym y t)),
+      (In-map place (bits 9 m) (i, j)).1 (3 * j + i, (In-keep set (up_to 9) (3 * j + i)).1 (In-up_to 9 (3 * j + i) l, eq-eqb c.set), λ t. (sym x t, sym y t)),
   λ h. let r = (In-map place (bits 9 m) (i, j)).0 h in
       let k = r.0 in
       let s = (In-keep set (up_to 9) k).0 r.1 in

@@ -11,7 +11,7 @@ use lib.ListN.{get_or, set, length-set, replicate}
 use lib.Seq.{get_or-set_same, get_or-set_other}
 use Rattle.plane.specs.Lists.{all, In}
 use Rattle.plane.proofs.Member.{all_In, In-all}
-use Rattle.plane.proofs.Tests.{T_dec, clash, eq_eqb, lt_or_le}
+use Rattle.plane.proofs.Tests.{T_dec, clash, eq-eqb, lt_or_le}
 use Rattle.masks.specs.Mask.{stage}
 use Rattle.masks.proofs.Cells.{stage_below}
 use Rattle.rows.specs.Cells.{Cells, Same, Sum, Residue, At, AtMask, AtSum, CutTo}
@@ -109,4 +109,4 @@ module _ (permitted : ℕ → Bool) (A : Cells) where
         go m h (inr f) =
             let st = In-all permitted ns S.masks m h in
             let k = M.at m (stage_below m (sub m st)) in
-            absurd (k.passed (λ e. clash (tries marks m) f (eq_eqb e)) st ns S h)
+            absurd (k.passed (λ e. clash (tries marks m) f (eq-eqb e)) st ns S h)

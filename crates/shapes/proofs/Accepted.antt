@@ -16,7 +16,7 @@ use Rattle.plane.specs.Point.{Point, Cell, point, ◌+ᵖ◌, negᵖ, ◌-ᵖ◌
 use Rattle.plane.proofs.Algebra.{+ᵖ_cancel, subᵖ_cancel}
 use Rattle.plane.proofs.Extents.{span_near}
 use Rattle.plane.proofs.Member.{any_no, In-map, In-flat, In-keep, up_to_In, least_member}
-use Rattle.plane.proofs.Tests.{cond_ind, not_or, not_ltb, eq_eqb}
+use Rattle.plane.proofs.Tests.{cond_ind, not_or, not_ltb, eq-eqb}
 use Rattle.words.specs.Word.{row_y, row_columns}
 use Rattle.words.proofs.Refusals.{Clear}
 use Rattle.masks.proofs.Placed.{Placed}
@@ -91,7 +91,7 @@ some_cell (a ∷ []) h t = absurd (let z : 2 ≤ 1 = h in omega arith)
 some_cell (a ∷ w ∷ ws) h t = go (row_columns w) refl ((not_or (eqb (length (row_columns w)) 0) (any empty_row ws)).0 t).0
   where
     go : (l : List ℕ) → row_columns w ≡ l → T (not (eqb (length (row_columns w)) 0)) → (c : Cell) × In (flat row_cells (w ∷ ws)) c
-    go [] e u = absurd (T_not (eqb (length (row_columns w)) 0) u (eq_eqb (ap length e)))
+    go [] e u = absurd (T_not (eqb (length (row_columns w)) 0) u (eq-eqb (ap length e)))
     go (x ∷ xs) e u =
         let c : Cell = (x, row_y w) in
         let in_row = (In-map (λ k. (k, row_y w)) (row_columns w) c).1 (x, subst (λ l. In l x) (sym e) (inl refl), refl) in

@@ -13,7 +13,7 @@ use Rattle.plane.specs.Lists.{In, any, all}
 use Rattle.plane.specs.Point.{Point, Cell, point, ◌+ᵖ◌, negᵖ, ◌-ᵖ◌, ◌≐◌, moved}
 use Rattle.plane.proofs.Algebra.{+ᵖ_cancel, subᵖ_cancel, +ᵖ_comm, ≐_trans, ≐_sym}
 use Rattle.plane.proofs.Member.{any_no, In-map, In-all}
-use Rattle.plane.proofs.Tests.{not_or, not_ltb, not_not, eq_eqb, un_not}
+use Rattle.plane.proofs.Tests.{not_or, not_ltb, not_not, eq-eqb, un_not}
 use Rattle.words.specs.Word.{wrong_kind, extra_bit, head_kind, place_kind, stage_kind, head_count, place_x, place_y, stage_mask, place_word, stage_word}
 use Rattle.words.proofs.Refusals.{Clear}
 use Rattle.words.proofs.Words.{Fine, head_fine, place_fine, stage_fine, head_count_lem, place_x_lem, place_y_lem, stage_mask_lem}
@@ -122,7 +122,7 @@ module _ (d : Point) (ms : List ℕ) (px py : ℕ) (ex : d.0 +ℤ pos 15 ≡ pos
       let long = (not_or (ltb n 2) (ltb 32 n)).1 (not_ltb n 2 (omega arith), not_ltb 32 n (omega arith)) in
       let kinds = each wrong_kind head_is.kind_is place_is.kind_is (λ w h. (stage_is w h).kind_is) in
       let bits = each extra_bit head_is.bits_named place_is.bits_named (λ w h. (stage_is w h).bits_named) in
-      let count = not_not (eqb (head_count (get_or plan 0 0)) (n - 2)) (eq_eqb (head_count_lem (length ms) (omega arith) ∙ omega arith)) in
+      let count = not_not (eqb (head_count (get_or plan 0 0)) (n - 2)) (eq-eqb (head_count_lem (length ms) (omega arith) ∙ omega arith)) in
       let x = place_x (get_or plan 1 0) in
       let y = place_y (get_or plan 1 0) in
       let ex' = field_x in

@@ -5,7 +5,7 @@ use mathlib.Core.List.{List, map}
 use Prim.Native.Nat.{ℕ, ◌+◌, ◌%◌, ◌<◌, ◌≤◌}
 use native.Mathlib.Omega.{arith}
 use native.Mathlib.Numerals.{add-one}
-use borrow.Author.Tests.{eqb-true, eqb-false, eq_eqb, ne_eqb}
+use borrow.Author.Tests.{eqb-true, eqb-false, eq-eqb, ne_eqb}
 use lib.Dec.{T, eqb}
 use lib.ListN.{length, get_or, drop, length-drop, length-map, drop_of_length-le}
 use lib.Seq.{drop-cons}
@@ -42,7 +42,7 @@ room_stage {W} {H} r p d hp hd v hv = let s = sides W H r.sides in grid_stage W 
 module _ {erode : Bool} {v m W H t : ℕ} {i j : List ℕ} where
   -- after an even number of stages from the first image into the second
   pub from_first : {j' : List ℕ} → t % 2 ≡ 0 → PlaneTaken erode v (W + 15) (H + 15) m i j j' → Turned erode v m W H t i j i j'
-  from_first {j'} e s = let b = eq_eqb (t % 2) 0 e in record { from = rw b; to = rw b s }
+  from_first {j'} e s = let b = eq-eqb (t % 2) 0 e in record { from = rw b; to = rw b s }
 
   -- after an odd number from the second into the first
   pub from_second : {i' : List ℕ} → (t % 2 ≡ 0 → ⊥) → PlaneTaken erode v (W + 15) (H + 15) m j i i' → Turned erode v m W H t i j i' j

@@ -3,7 +3,7 @@ use mathlib.Core.Path.{◌≡◌, refl, ap}
 use mathlib.Core.Bool.{true, false}
 use mathlib.Core.List.{List, [], ◌∷◌}
 use Prim.Native.Nat.{ℕ}
-use Rattle.plane.proofs.Tests.{eq_eqb}
+use Rattle.plane.proofs.Tests.{eq-eqb}
 use Rattle.words.specs.declared.Word.TheVariants.{Anchor, Row, Head, Place, Stage, Unused}
 use Rattle.words.specs.Ground.{Test, first_of, both, Promised}
 use Rattle.words.specs.Read.{word_of}
@@ -86,7 +86,7 @@ two_done : Two ((11, false) ∷ (12, false) ∷ []) (0, 3, 4)
 two_done = promised_done ((11, false) ∷ (12, false) ∷ []) refl refl
 
 two_refused : Two ((11, false) ∷ (12, true) ∷ (13, true) ∷ []) (12, 0, 0)
-two_refused = promised_refusal ((11, false) ∷ (12, true) ∷ (13, true) ∷ []) (λ e. eq_eqb e) refl tt
+two_refused = promised_refusal ((11, false) ∷ (12, true) ∷ (13, true) ∷ []) (λ e. eq-eqb e) refl tt
 
 -- the promise fixes the ground that is answered
 two_first : (told : ℕ × ℕ × ℕ) → Two ((11, false) ∷ (12, true) ∷ (13, true) ∷ []) told → told.0 ≡ 12

@@ -11,7 +11,7 @@ use Rattle.words.specs.declared.Answer.TheVariants.{Refused}
 use Rattle.words.specs.declared.Ground.{Ground}
 use Rattle.plane.specs.Lists.{all, up_to}
 use Rattle.plane.proofs.Member.{each_below}
-use Rattle.plane.proofs.Tests.{T_and, T_or, T_dec, clash, cond_ind, eq_eqb}
+use Rattle.plane.proofs.Tests.{T_and, T_or, T_dec, clash, cond_ind, eq-eqb}
 use Rattle.words.specs.Ground.{Test, first_of, number_of, stated, refusal, Promised, Answered}
 use Rattle.words.proofs.Refusals.{ground_of, is_ground, promised_done, promised_refusal}
 
@@ -66,7 +66,7 @@ can_promise {A} {S} Refuses refuse says ts t same U W u w = go (T_dec (eqb (firs
         let g = ground_of (first_of ts) in (
           refuse g,
           same,
-          promised_refusal ts (λ e. clash (eqb (first_of ts) 0) n (eq_eqb e)) (subst (Refuses (refuse g)) (number_back (first_of ts) k) (says g)) u,
+          promised_refusal ts (λ e. clash (eqb (first_of ts) 0) n (eq-eqb e)) (subst (Refuses (refuse g)) (number_back (first_of ts) k) (says g)) u,
         )
 
 pub can_keep : {S : Type 0} (ts : List Test) → T (known ts) → (same : S) (U : S → Type 0) (W : Answer → S → Type 0) → U same

@@ -8,7 +8,7 @@ use native.Mathlib.Omega.{arith}
 use lib.Dec.{T, ltb, leb, eqb, ltb→lt, leb→le, eqb→eq}
 use lib.ListN.{get_or, drop}
 use Rattle.plane.specs.Lists.{all}
-use Rattle.plane.proofs.Tests.{T_and, T_dec, T_false, not_or, eq_eqb}
+use Rattle.plane.proofs.Tests.{T_and, T_dec, T_false, not_or, eq-eqb}
 use Rattle.words.specs.Ground.{Test, first_of, number_of, stated, result, refusal, both, Tried, Promised}
 use Rattle.words.specs.declared.Ground.{Ground}
 use Rattle.words.specs.declared.Ground.TheVariants.{ListLength, WordKind, ExtraBit, RowOrder, StageCount, PlaceField, StageMask, OutOfRange}
@@ -215,7 +215,7 @@ result_no_refusal r n k p q = ap (λ s. s.0) (sym q ∙ p)
 
 -- an answer that says which test holds: a refusal says that one does, any other that none does
 pub refused_some : (g : Ground) (k : ℕ) → stated (Refused g) ≡ refusal k → k ≢ 0
-refused_some g k e z = absurd (subst T (ground_some g) (eq_eqb (ap (λ s. s.0) e ∙ z)))
+refused_some g k e z = absurd (subst T (ground_some g) (eq-eqb (ap (λ s. s.0) e ∙ z)))
 
 pub done_none : (n k : ℕ) → stated (Done n) ≡ refusal k → k ≡ 0
 done_none n k e = sym (ap (λ s. s.0) e)

@@ -7,7 +7,7 @@ use Prim.Native.Nat.{ℕ}
 use lib.Dec.{T, eqb, eqb→eq}
 use denote.Enum.Declared.{tag_of}
 use types.Run.{OneOf, miss}
-use Rattle.plane.proofs.Tests.{T_dec, clash, eq_eqb}
+use Rattle.plane.proofs.Tests.{T_dec, clash, eq-eqb}
 use Rattle.words.specs.declared.Answer.{Answer}
 use Rattle.words.specs.declared.Answer.TheVariants.{Done, Refused}
 use Rattle.words.specs.declared.Ground.{Ground}
@@ -50,4 +50,4 @@ promised_number {Refuses} {Unchanged} ts n says w a = go (T_dec (eqb (first_of t
   where
     go : T (eqb (first_of ts) 0) ⊎ T (not (eqb (first_of ts) 0)) → (n ≡ first_of ts) × (n ≢ 0 → Unchanged)
     go (inl t) = let e = eqb→eq (first_of ts) 0 t in let z = w (a.done e) in (z ∙ sym e, λ k. absurd (k z))
-    go (inr t) = let q = a.refused (λ e. clash (eqb (first_of ts) 0) t (eq_eqb e)) in (says (first_of ts) q.0, λ _. q.1)
+    go (inr t) = let q = a.refused (λ e. clash (eqb (first_of ts) 0) t (eq-eqb e)) in (says (first_of ts) q.0, λ _. q.1)

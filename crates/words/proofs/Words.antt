@@ -4,7 +4,7 @@ use Prim.Native.Nat.{ℕ, ◌+◌, ◌*◌, ◌/◌, ◌%◌, ◌^◌, ◌≤◌
 use native.Mathlib.Omega.{arith}
 use mathlib.Core.Bool.{not}
 use lib.Dec.{T, eqb, leb}
-use Rattle.plane.proofs.Tests.{eq_eqb, not_not, not_leb}
+use Rattle.plane.proofs.Tests.{eq-eqb, not_not, not_leb}
 use Rattle.words.specs.Word.{kind, named_bits, wrong_kind, extra_bit, anchor_kind, row_kind, head_kind, place_kind, stage_kind, anchor_x, anchor_y, row_y}
 use Rattle.words.specs.Word.{head_count, place_x, place_y, stage_mask, anchor_word, row_word, head_word, place_word, stage_word}
 
@@ -18,7 +18,7 @@ fine : (k w r n : ℕ) → n ≡ 2 ^ named_bits k → w ≡ k * 2 ^ 28 + r → r
 fine k w r n b e h l =
     let q : w / 268435456 ≡ k = omega arith in
     let s : w % 268435456 < n = omega arith in
-    record { kind_is = not_not (eqb (kind w) k) (eq_eqb q); bits_named = subst (λ j. T (not (leb j (w % 2 ^ 28)))) b (not_leb n (w % 268435456) s) }
+    record { kind_is = not_not (eqb (kind w) k) (eq-eqb q); bits_named = subst (λ j. T (not (leb j (w % 2 ^ 28)))) b (not_leb n (w % 268435456) s) }
 
 pub anchor_fine : (x y : ℕ) → x < 16 → y < 16 → Fine anchor_kind (anchor_word x y)
 anchor_fine x y h l = fine 1 (anchor_word x y) (y * 16 + x) 256 refl (omega arith) (omega arith) (omega arith)

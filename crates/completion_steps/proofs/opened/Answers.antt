@@ -10,18 +10,18 @@ returns-then-not-roomy c =
     let st = c in
     let h = st.args.here in
     opened_outside st.args.nums.now st.args.cand.now h st.args.m st.args.k
-    (λ r. c.roomy.ensures.1 (not-true _ c.if-not-roomy.true) r.list r.path)
+    (λ r. c.roomy.ensures.1 (c.if-not-roomy.true) r.list r.path)
 
 pub returns-then-not-c : goal.returns-then-not-c
 returns-then-not-c c =
     let st = c in
     let h = st.args.here in
-    opened_passed st.args.nums.now st.args.cand.now h st.args.m st.args.k _ c.step-c.ensures (not-true _ c.if-not-c.true)
+    opened_passed st.args.nums.now st.args.cand.now h st.args.m st.args.k _ c.step-c.ensures (c.if-not-c.true)
 
 pub node-requires : goal.node-requires
 node-requires c =
-    let room = c.roomy.ensures.0 (not-false _ c.if-not-roomy.false) in
-    let n = (c.step-c.ensures.below.longer (not-false _ c.if-not-c.false)).1 in
+    let room = c.roomy.ensures.0 (c.if-not-roomy.false) in
+    let n = (c.step-c.ensures.below.longer (c.if-not-c.false)).1 in
     (omega (arith, room.1, n), room.0)
 
 pub returns-then-not-node : goal.returns-then-not-node
@@ -29,13 +29,13 @@ returns-then-not-node c =
     let st = c in
     let h = st.args.here in
     opened_none st.args.nums.now st.args.cand.now h st.args.m st.args.k _ c.step-c.ensures
-    (not-false _ c.if-not-c.false) (c.node.ensures (not-true _ c.if-not-node.true))
+    (c.if-not-c.false) (c.node.ensures (c.if-not-node.true))
 
 pub returns : goal.returns
 returns c =
     let st = c in
     let h = st.args.here in
     let room = c.roomy.ensures.0
-    (not-false _ c.if-not-roomy.false) in
+    (c.if-not-roomy.false) in
     opened_yes st.args.nums.now st.args.cand.now h st.args.m st.args.k _ c.step-c.ensures
-    (not-false _ c.if-not-c.false) (record { list = room.0; path = room.1 })
+    (c.if-not-c.false) (record { list = room.0; path = room.1 })

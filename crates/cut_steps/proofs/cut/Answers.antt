@@ -11,12 +11,12 @@ pub returns-then-not-cut_fits : goal.returns-then-not-cut_fits
 returns-then-not-cut_fits c =
     let a = c.args in
     was_kept (cut_fits a.w a.h a.columns a.rows a.a a.b (length a.src.now) (length a.dst.now)) a.dst.now
-    (test_fails c.cut_fits.ensures c.if-not-cut_fits.taken)
+    (sym c.cut_fits.ensures ∙ c.if-not-cut_fits.true)
 
 pub down-requires : goal.down-requires
 down-requires c =
     let a = c.args in
-    let e = test_holds c.cut_fits.ensures c.if-not-cut_fits.false in
+    let e = sym c.cut_fits.ensures ∙ c.if-not-cut_fits.false in
     let s = cut_says a.w a.h a.columns a.rows a.a a.b (length a.src.now) (length a.dst.now) e in
     omega arith
 
@@ -24,5 +24,5 @@ pub returns : goal.returns
 returns c =
     let a = c.args in
     was_done (cut_fits a.w a.h a.columns a.rows a.a a.b (length a.src.now) (length a.dst.now)) a.dst.now
-    (test_holds c.cut_fits.ensures c.if-not-cut_fits.false)
+    (sym c.cut_fits.ensures ∙ c.if-not-cut_fits.false)
     c.down.ensures

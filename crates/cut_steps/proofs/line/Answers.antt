@@ -16,7 +16,7 @@ returns-then-e-p c =
     ranged_ap c.fill.ensures
     (λ k lo hi. sym
     (none_seen a.outside (length a.row.now) (λ i. get_or a.row.now i 0) at-if.edge-p.ensures at-if.edge-e.ensures
-    k at-if.if-e-p.taken hi))
+    k at-if.if-e-p.true hi))
 
 pub overflow_sub-p : goal.overflow_sub-p
 overflow_sub-p c =

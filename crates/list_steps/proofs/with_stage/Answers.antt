@@ -11,9 +11,9 @@ pub returns-in-Stage : goal.returns-in-Stage
 returns-in-Stage c =
     let k = c in
     let st = k in
-    stage_sum st.args.z c.mask_rows-mask.result c.sum_of_lem.result (get_or st.args.ws.now st.args.at 0) _
+    stage_sum st.args.z c.mask_rows-mask.result c.sum_of.result (get_or st.args.ws.now st.args.at 0) _
     (sym k.word_at-word.ensures ∙ c.in-Stage.is)
-    c.mask_rows-mask.ensures c.sum_of_lem.ensures
+    c.mask_rows-mask.ensures c.sum_of.ensures
 
 pub returns-in_default : goal.returns-in_default
 returns-in_default c =

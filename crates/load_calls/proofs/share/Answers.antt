@@ -6,7 +6,7 @@ use mathlib.Core.List.{List, [], ◌∷◌}
 use native.Mathlib.Omega.{arith}
 use Prim.Native.Nat.{◌*◌, ◌/◌, ◌%◌, ◌≤◌}
 use lib.ListN.{length}
-use borrow.Author.Tests.{eq_eqb, ne_eqb}
+use borrow.Author.Tests.{eq-eqb, ne_eqb}
 use Rattle.words.specs.Ground.{Test, first_of, stated, refusal}
 use Rattle.words.proofs.Refusals.{clear, rest_append, promised_done, promised_rest}
 use Rattle.words.proofs.Tested.{no_refusal, refused_first}
@@ -67,7 +67,7 @@ returns-then-all-eq0 c =
     let f = a.frame.now in
     let ts = frame_tests a.w a.h f in
     let us : List Test = (16, none_measured f) ∷ [] in
-    let e : none_measured f ≡ true = eq_eqb (measured f) 0 (sym c.measured-all.ensures ∙ c.if-all-eq0.true) in
+    let e : none_measured f ≡ true = eq-eqb (measured f) 0 (sym c.measured-all.ensures ∙ c.if-all-eq0.true) in
     promised_rest ts us (clear ts tt (accepted d)) (record {
       refused = λ n. (ap (λ b. (cond b 16 0, 0, 0)) (sym e), tt);
       done = λ z. absurd (let n : 16 ≡ 0 = sym (ap (λ b. cond b 16 0) e) ∙ z in omega arith);

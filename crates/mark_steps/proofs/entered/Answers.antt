@@ -1,7 +1,7 @@
 -- A marked mask is a stage, so that the numbers of its rows are its own.
 use mathlib.Core.Path.{refl}
 use lib.Dec.{eqb→eq}
-use Rattle.plane.proofs.Tests.{eq_eqb}
+use Rattle.plane.proofs.Tests.{eq-eqb}
 use Rattle.search.proofs.Asked.{tabled_more, tabled_skip, stage_numbers}
 use borrow.Author.Rules.{rules}
 use Rattle.mark_steps.proofs.entered.Goals as goal
@@ -15,7 +15,7 @@ pub returns : goal.returns
 returns c =
     let st = c in
     let g = c.store.ensures in
-    let t = st.requires.0.stages st.args.m (eq_eqb c.if-marks-m-ne1.false) in
+    let t = st.requires.0.stages st.args.m (eq-eqb c.if-marks-m-ne1.false) in
     let n = stage_numbers st.args.m t _ _ c.mask_rows.ensures
     c.numbers-numbers.ensures in
     (g.long, λ h. tabled_more st.args.marks.now st.args.table.now st.args.m h _ _ g n)

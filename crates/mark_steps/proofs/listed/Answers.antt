@@ -3,7 +3,7 @@ use mathlib.Core.Logic.{⊎_elim}
 use Prim.Native.Nat.{ℕ, ◌+◌, ◌≤◌, ◌-◌}
 use lib.Dec.{eqb→eq}
 use lib.ListN.{set}
-use Rattle.plane.proofs.Tests.{eq_eqb}
+use Rattle.plane.proofs.Tests.{eq-eqb}
 use Rattle.search.specs.Asking.{Drawn}
 use Rattle.search.proofs.Asked.{drawn_none, drawn_more, drawn_skip}
 use borrow.Author.Rules.{rules}
@@ -21,7 +21,7 @@ loop-m-preserved c =
       omega arith,
       ⊎_elim
           (λ w. subst (λ (k : ℕ). Drawn marks (l.m + 1) (set l.list l.n l.m) k) (sym w.1)
-          (drawn_more marks l.list l.n l.m (omega arith) l.invariant.1 (eq_eqb w.0.taken)))
+          (drawn_more marks l.list l.n l.m (omega arith) l.invariant.1 (eq-eqb w.0.taken)))
           (λ w. subst (λ (k : ℕ). Drawn marks (l.m + 1) (set l.list l.n l.m) k) (sym w.1)
           (drawn_skip marks l.list l.n l.m (omega arith) l.invariant.1 (λ t. w.0.left (eqb→eq _ _ t))))
           c.if-marks-m-eq1.branch,

@@ -4,7 +4,7 @@ use mathlib.Core.Logic.{⊎_elim}
 use Prim.Native.Nat.{ℕ, ◌+◌, ◌≤◌, ◌-◌}
 use lib.Dec.{eqb→eq}
 use lib.ListN.{set}
-use Rattle.plane.proofs.Tests.{eq_eqb}
+use Rattle.plane.proofs.Tests.{eq-eqb}
 use Rattle.search.specs.Asking.{Drawn}
 use Rattle.search.proofs.Asked.{drawn_none, drawn_more, drawn_skip}
 use borrow.Author.Rules.{rules}

@@ -11,13 +11,13 @@ use Rattle.mark_steps.proofs.mark.Goals as goal
 pub returns-then-not-is_stage : goal.returns-then-not-is_stage
 returns-then-not-is_stage c =
     let st = c in
-    mark_none stage _ st.args.m _ refl (λ t. absurd (subst T (sym c.is_stage.ensures ∙ not-true _ c.if-not-is_stage.true) t))
+    mark_none stage _ st.args.m _ refl (λ t. absurd (subst T (sym c.is_stage.ensures ∙ c.if-not-is_stage.true) t))
 
 pub returns-then-same : goal.returns-then-same
 returns-then-same c =
     let st = c in
     mark_one stage _ st.args.m _ refl (subst T
-    (sym (not-false _ c.if-not-is_stage.false) ∙ c.is_stage.ensures) tt)
+    (sym (c.if-not-is_stage.false) ∙ c.is_stage.ensures) tt)
 
 pub returns-else-same : goal.returns-else-same
 returns-else-same c =

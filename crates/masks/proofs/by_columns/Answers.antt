@@ -24,10 +24,10 @@ pub loop-mask-preserved : goal.loop-mask-preserved
 loop-mask-preserved c =
     let r = c.in_column_0 in
     let l = c.loop-mask in
-    (omega (arith, l.invariant.0), column_step l.n l.invariant.0 (sym r.ensures ∙ not-true r.result c.loop-mask-test.true) ∙ l.invariant.1)
+    (omega (arith, l.invariant.0), column_step l.n l.invariant.0 (sym r.ensures ∙ c.loop-mask-test.true) ∙ l.invariant.1)
 
 pub returns : goal.returns
 returns c =
     let r = c.in_column_0 in
     let l = c.loop-mask in
-    sym (column_stop l.n l.invariant.0 (sym r.ensures ∙ not-false r.result c.loop-mask-test.false)) ∙ l.invariant.1
+    sym (column_stop l.n l.invariant.0 (sym r.ensures ∙ c.loop-mask-test.false)) ∙ l.invariant.1

@@ -19,19 +19,19 @@ returns-then-not-fits c =
     let h = st.args.here in
     let nums = st.args.nums.now in
     stepped_no nums h st.args.m (λ l permitted r t. step_unfit nums h st.args.m permitted r t
-    (c.fits2.ensures.1 (not-true _ c.if-not-fits.true) (r.known.below st.args.m t)))
+    (c.fits2.ensures.1 (c.if-not-fits.true) (r.known.below st.args.m t)))
 
 pub returns-then-not-reaches : goal.returns-then-not-reaches
 returns-then-not-reaches c =
     let fit = c.fits2.ensures.0
-    (not-false _ c.if-not-fits.false) in
+    (c.if-not-fits.false) in
     let st = c in
     let h = st.args.here in
     let nums = st.args.nums.now in
     let known = field16 h.rest _ st.well-formed.0.1.1.1.0 in
     stepped_no nums h st.args.m (λ l permitted r t. step_unmet nums h st.args.m permitted r t known _ c.shrunk-t.ensures
     c.less-left.result (c.less-left.ensures.0 fit.0)
-    fit.1 (c.reaches.ensures.1 (not-true _ c.if-not-reaches.true)))
+    fit.1 (c.reaches.ensures.1 (c.if-not-reaches.true)))
 
 pub returns-then-not-covers : goal.returns-then-not-covers
 returns-then-not-covers c =
@@ -40,7 +40,7 @@ returns-then-not-covers c =
     let nums = st.args.nums.now in
     let known = field16 h.rest _ st.well-formed.0.1.1.1.0 in
     stepped_no nums h st.args.m (λ l permitted r t. step_uncovered nums h st.args.m permitted r t known _
-    c.shrunk-t.ensures (c.covers.ensures (not-true _ c.if-not-covers.true)))
+    c.shrunk-t.ensures (c.covers.ensures (c.if-not-covers.true)))
 
 pub returns : goal.returns
 returns c =
@@ -50,9 +50,9 @@ returns c =
     let known = field16 h.rest _ st.well-formed.0.1.1.1.0 in
     let long = field_length 32 h.path st.well-formed.0.1.1.1.1.0.1.0.1 in
     let fit = c.fits2.ensures.0
-    (not-false _ c.if-not-fits.false) in
+    (c.if-not-fits.false) in
     let less = c.less-left.ensures.0 fit.0 in
     let p = less 16 (omega arith) in
     let q = less 17 (omega arith) in
     stepped_yes nums h st.args.m known _ _ c.shrunk-t.ensures less (omega arith) long
-    (gained _ _ _ _ (omega arith) (omega arith) (c.reaches.ensures.0 (not-false _ c.if-not-reaches.false)))
+    (gained _ _ _ _ (omega arith) (omega arith) (c.reaches.ensures.0 (c.if-not-reaches.false)))

@@ -36,7 +36,7 @@ returns-then-not-p c =
     let W = field16 s.result.rows _ s.type-inv.1.1.1.1.1.0 in
     let p = c.shortest-p in
     long_enough a.ws.now a.out.now z c.if-out-lt32.false
-    (inl (unplannable a.ws.now a.out.now s.result W F _ _ _ p.ensures (not-true _ c.if-not-p.true) _ refl))
+    (inl (unplannable a.ws.now a.out.now s.result W F _ _ _ p.ensures (c.if-not-p.true) _ refl))
 
 pub write_plan-n-requires : goal.write_plan-n-requires
 write_plan-n-requires c =
@@ -53,7 +53,7 @@ write_plan-n-requires c =
       (
         f.1,
         (
-          few a.ws.now a.out.now s.result W F _ _ _ p.ensures (not-false _ c.if-not-p.false),
+          few a.ws.now a.out.now s.result W F _ _ _ p.ensures (c.if-not-p.false),
           c.if-out-lt32.false,
         ),
       ),
@@ -72,5 +72,5 @@ returns c =
     let w = c.write_plan-n in
     long_enough a.ws.now a.out.now z c.if-out-lt32.false
     (inr
-    (written a.ws.now a.out.now s.result W F _ _ _ p.ensures (not-false _ c.if-not-p.false) _ _ _ refl
+    (written a.ws.now a.out.now s.result W F _ _ _ p.ensures (c.if-not-p.false) _ _ _ refl
     w.ensures))

@@ -10,18 +10,18 @@ pub returns-then-not-group_fits : goal.returns-then-not-group_fits
 returns-then-not-group_fits c =
     let a = c.args in
     was_kept (group_fits (length a.d.now) (length a.s.now) a.w a.r) a.d.now
-    (test_fails c.group_fits_lem.ensures c.if-not-group_fits.taken)
+    (sym c.group_fits.ensures ∙ c.if-not-group_fits.true)
 
 pub grouped-requires : goal.grouped-requires
 grouped-requires c =
     let a = c.args in
     let q = group_says (length a.d.now) (length a.s.now) a.w a.r
-    (test_holds c.group_fits_lem.ensures c.if-not-group_fits.false) in
+    (sym c.group_fits.ensures ∙ c.if-not-group_fits.false) in
     q
 
 pub returns : goal.returns
 returns c =
     let a = c.args in
     was_done (group_fits (length a.d.now) (length a.s.now) a.w a.r) a.d.now
-    (test_holds c.group_fits_lem.ensures c.if-not-group_fits.false)
+    (sym c.group_fits.ensures ∙ c.if-not-group_fits.false)
     c.grouped.ensures

@@ -10,13 +10,13 @@ pub returns-then-s-d : goal.returns-then-s-d
 returns-then-s-d c =
     let a = c.args in
     was_kept (top_fits (length a.d.now) (length a.s.now) a.outside) a.d.now
-    (top_short (length a.d.now) (length a.s.now) a.outside c.if-s-d.taken)
+    (top_short (length a.d.now) (length a.s.now) a.outside c.if-s-d.true)
 
 pub returns-then-outside-gt1 : goal.returns-then-outside-gt1
 returns-then-outside-gt1 c =
     let a = c.args in
     was_kept (top_fits (length a.d.now) (length a.s.now) a.outside) a.d.now
-    (top_high (length a.d.now) (length a.s.now) a.outside c.if-s-d.false c.if-outside-gt1.taken)
+    (top_high (length a.d.now) (length a.s.now) a.outside c.if-s-d.false c.if-outside-gt1.true)
 
 pub returns : goal.returns
 returns c =

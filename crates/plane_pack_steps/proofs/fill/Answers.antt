@@ -18,13 +18,13 @@ pub lead-requires : goal.lead-requires
 lead-requires c =
     let st = c in
     let r = ranged_part {a = 0} zero-le (room_for st.pre) c.fill.ensures in
-    lead_room st.args.far c.if-far.taken st.pre (omega arith) r
+    lead_room st.args.far c.if-far.true st.pre (omega arith) r
 
 pub grouped-requires : goal.grouped-requires
 grouped-requires c =
     let st = c in
     let r = ranged_part {a = 0} zero-le (room_for st.pre) c.fill.ensures in
-    let g = begun_far st.args.some st.args.far c.if-far.taken st.pre (omega arith) r
+    let g = begun_far st.args.some st.args.far c.if-far.true st.pre (omega arith) r
     c.lead.ensures in
     (g.packs, g.leads, g.shown)
 
@@ -33,7 +33,7 @@ returns-then-far c =
     let l = c in
     let st = l in
     let r = ranged_part {a = 0} zero-le (room_for st.pre) l.fill.ensures in
-    let g = begun_far st.args.some st.args.far l.if-far.taken st.pre (omega arith) r l.lead.ensures in
+    let g = begun_far st.args.some st.args.far l.if-far.true st.pre (omega arith) r l.lead.ensures in
     then_packed g c.grouped.ensures
 
 pub grouped-requires-2 : goal.grouped-requires-2

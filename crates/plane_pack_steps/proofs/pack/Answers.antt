@@ -10,17 +10,17 @@ pub returns-then-not-pack_fits : goal.returns-then-not-pack_fits
 returns-then-not-pack_fits c =
     let a = c.args in
     was_kept (pack_fits a.outside a.far a.w a.h a.gw a.gh (length a.f.now) (length a.dst.now)) a.dst.now
-    (test_fails c.pack_fits.ensures c.if-not-pack_fits.taken)
+    (sym c.pack_fits.ensures ∙ c.if-not-pack_fits.true)
 
 pub fill-requires : goal.fill-requires
 fill-requires c =
     let a = c.args in
     pack_says a.outside a.far a.w a.h a.gw a.gh a.f.now a.dst.now
-    (test_holds c.pack_fits.ensures c.if-not-pack_fits.false)
+    (sym c.pack_fits.ensures ∙ c.if-not-pack_fits.false)
 
 pub returns : goal.returns
 returns c =
     let a = c.args in
     was_done (pack_fits a.outside a.far a.w a.h a.gw a.gh (length a.f.now) (length a.dst.now)) a.dst.now
-    (test_holds c.pack_fits.ensures c.if-not-pack_fits.false)
+    (sym c.pack_fits.ensures ∙ c.if-not-pack_fits.false)
     c.fill.ensures

@@ -16,36 +16,36 @@ returns-then-not-sides c =
     let a = c.args in
     first_of_five (plane_sides a.outside a.gw a.gh) (leb (a.w + place_of a.far) a.gw) (leb (a.h + place_of a.far) a.gh)
     (leb (a.w * a.h) a.n) (leb (plane_size a.gw a.gh) a.k)
-    (test_fails c.sides.ensures c.if-not-sides.taken)
+    (sym c.sides.ensures ∙ c.if-not-sides.true)
 
 pub returns-then-not-fits_at : goal.returns-then-not-fits_at
 returns-then-not-fits_at c =
     let a = c.args in
     let p = c.place-s in
-    let u = test_holds c.sides.ensures c.if-not-sides.false in
+    let u = sym c.sides.ensures ∙ c.if-not-sides.false in
     let e = c.fits_at.ensures ∙ ap (λ s. leb (a.w + s) a.gw) p.ensures in
     second_of_five (plane_sides a.outside a.gw a.gh) (leb (a.w + place_of a.far) a.gw) (leb (a.h + place_of a.far) a.gh)
     (leb (a.w * a.h) a.n) (leb (plane_size a.gw a.gh) a.k)
-    u (test_fails e c.if-not-fits_at.taken)
+    u (sym e ∙ c.if-not-fits_at.true)
 
 pub returns-then-not-fits_at-2 : goal.returns-then-not-fits_at-2
 returns-then-not-fits_at-2 c =
     let a = c.args in
     let p = c.place-s in
-    let u = test_holds c.sides.ensures c.if-not-sides.false in
+    let u = sym c.sides.ensures ∙ c.if-not-sides.false in
     let e = c.fits_at.ensures ∙ ap (λ s. leb (a.w + s) a.gw) p.ensures in
     let f = c.fits_at-2.ensures ∙ ap (λ s. leb (a.h + s) a.gh) p.ensures in
     third_of_five (plane_sides a.outside a.gw a.gh) (leb (a.w + place_of a.far) a.gw) (leb (a.h + place_of a.far) a.gh)
     (leb (a.w * a.h) a.n) (leb (plane_size a.gw a.gh) a.k)
-    u (test_holds e c.if-not-fits_at.false) (test_fails f c.if-not-fits_at-2.taken)
+    u (sym e ∙ c.if-not-fits_at.false) (sym f ∙ c.if-not-fits_at-2.true)
 
 pub overflow_mul-w : goal.overflow_mul-w
 overflow_mul-w c =
     let a = c.args in
     let p = c.place-s in
-    let u = test_holds c.sides.ensures c.if-not-sides.false in
-    let e = test_holds (c.fits_at.ensures ∙ ap (λ s. leb (a.w + s) a.gw) p.ensures) c.if-not-fits_at.false in
-    let f = test_holds (c.fits_at-2.ensures ∙ ap (λ s. leb (a.h + s) a.gh) p.ensures) c.if-not-fits_at-2.false in
+    let u = sym c.sides.ensures ∙ c.if-not-sides.false in
+    let e = sym (c.fits_at.ensures ∙ ap (λ s. leb (a.w + s) a.gw) p.ensures) ∙ c.if-not-fits_at.false in
+    let f = sym (c.fits_at-2.ensures ∙ ap (λ s. leb (a.h + s) a.gh) p.ensures) ∙ c.if-not-fits_at-2.false in
     let s = sides_say a.outside a.gw a.gh u in
     let x = leb-true (a.w + place_of a.far) a.gw e in
     let y = leb-true (a.h + place_of a.far) a.gh f in
@@ -57,9 +57,9 @@ returns-then-n-w c =
     let t = v in
     let a = t.args in
     let p = v.place-s in
-    let u = test_holds t.sides.ensures t.if-not-sides.false in
-    let e = test_holds (v.fits_at.ensures ∙ ap (λ s. leb (a.w + s) a.gw) p.ensures) v.if-not-fits_at.false in
-    let f = test_holds (c.fits_at-2.ensures ∙ ap (λ s. leb (a.h + s) a.gh) p.ensures) c.if-not-fits_at-2.false in
+    let u = sym t.sides.ensures ∙ t.if-not-sides.false in
+    let e = sym (v.fits_at.ensures ∙ ap (λ s. leb (a.w + s) a.gw) p.ensures) ∙ v.if-not-fits_at.false in
+    let f = sym (c.fits_at-2.ensures ∙ ap (λ s. leb (a.h + s) a.gh) p.ensures) ∙ c.if-not-fits_at-2.false in
     fourth_of_five (plane_sides a.outside a.gw a.gh) (leb (a.w + place_of a.far) a.gw) (leb (a.h + place_of a.far) a.gh)
     (leb (a.w * a.h) a.n) (leb (plane_size a.gw a.gh) a.k)
     u e f (lt-leb (a.w * a.h) a.n (omega arith))
@@ -68,28 +68,28 @@ pub overflow_add-result : goal.overflow_add-result
 overflow_add-result c =
     let t = c in
     let a = t.args in
-    let s = sides_say a.outside a.gw a.gh (test_holds t.sides.ensures t.if-not-sides.false) in
+    let s = sides_say a.outside a.gw a.gh (sym t.sides.ensures ∙ t.if-not-sides.false) in
     omega (arith, s.2)
 
 pub overflow_add-result-3 : goal.overflow_add-result-3
 overflow_add-result-3 c =
     let t = c in
     let a = t.args in
-    let s = sides_say a.outside a.gw a.gh (test_holds t.sides.ensures t.if-not-sides.false) in
+    let s = sides_say a.outside a.gw a.gh (sym t.sides.ensures ∙ t.if-not-sides.false) in
     omega (arith, s.1)
 
 pub overflow_mul-result : goal.overflow_mul-result
 overflow_mul-result c =
     let t = c in
     let a = t.args in
-    let s = sides_say a.outside a.gw a.gh (test_holds t.sides.ensures t.if-not-sides.false) in
+    let s = sides_say a.outside a.gw a.gh (sym t.sides.ensures ∙ t.if-not-sides.false) in
     omega (arith, size_small a.gw a.gh s.1 s.2)
 
 pub overflow_add-result-4 : goal.overflow_add-result-4
 overflow_add-result-4 c =
     let t = c in
     let a = t.args in
-    let s = sides_say a.outside a.gw a.gh (test_holds t.sides.ensures t.if-not-sides.false) in
+    let s = sides_say a.outside a.gw a.gh (sym t.sides.ensures ∙ t.if-not-sides.false) in
     omega (arith, size_small a.gw a.gh s.1 s.2)
 
 pub returns : goal.returns
@@ -98,9 +98,9 @@ returns c =
     let t = v in
     let a = t.args in
     let p = v.place-s in
-    let u = test_holds t.sides.ensures t.if-not-sides.false in
-    let e = test_holds (v.fits_at.ensures ∙ ap (λ s. leb (a.w + s) a.gw) p.ensures) v.if-not-fits_at.false in
-    let f = test_holds (c.fits_at-2.ensures ∙ ap (λ s. leb (a.h + s) a.gh) p.ensures) c.if-not-fits_at-2.false in
+    let u = sym t.sides.ensures ∙ t.if-not-sides.false in
+    let e = sym (v.fits_at.ensures ∙ ap (λ s. leb (a.w + s) a.gw) p.ensures) ∙ v.if-not-fits_at.false in
+    let f = sym (c.fits_at-2.ensures ∙ ap (λ s. leb (a.h + s) a.gh) p.ensures) ∙ c.if-not-fits_at-2.false in
     fifth_of_five (plane_sides a.outside a.gw a.gh) (leb (a.w + place_of a.far) a.gw) (leb (a.h + place_of a.far) a.gh)
     (leb (a.w * a.h) a.n) (leb (plane_size a.gw a.gh) a.k)
     u e f (le-leb (a.w * a.h) a.n (omega arith))

@@ -10,18 +10,18 @@ pub returns-then-not-reads_fit : goal.returns-then-not-reads_fit
 returns-then-not-reads_fit c =
     let a = c.args in
     was_kept (reads_fit (length a.d.now) (length a.s.now) a.c a.x a.y a.z) a.d.now
-    (test_fails c.reads_fit.ensures c.if-not-reads_fit.taken)
+    (sym c.reads_fit.ensures ∙ c.if-not-reads_fit.true)
 
 pub join-requires : goal.join-requires
 join-requires c =
     let a = c.args in
     let s = reads_say (length a.d.now) (length a.s.now) a.c a.x a.y a.z
-    (test_holds c.reads_fit.ensures c.if-not-reads_fit.false) in
+    (sym c.reads_fit.ensures ∙ c.if-not-reads_fit.false) in
     (s.0, s.1, s.2, c.lift.ensures.1, c.lift.ensures.2)
 
 pub returns : goal.returns
 returns c =
     let a = c.args in
     was_done (reads_fit (length a.d.now) (length a.s.now) a.c a.x a.y a.z) a.d.now
-    (test_holds c.reads_fit.ensures c.if-not-reads_fit.false)
+    (sym c.reads_fit.ensures ∙ c.if-not-reads_fit.false)
     (rw c.lift.ensures.0 at c.join.ensures)

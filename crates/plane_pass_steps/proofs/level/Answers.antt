@@ -11,7 +11,7 @@ pub returns-then-not-reads_fit : goal.returns-then-not-reads_fit
 returns-then-not-reads_fit c =
     let a = c.args in
     was_kept (reads_fit (length a.d.now) (length a.s.now) 0 a.x a.y a.z) a.d.now
-    (test_fails c.reads_fit.ensures c.if-not-reads_fit.taken)
+    (sym c.reads_fit.ensures ∙ c.if-not-reads_fit.true)
 
 pub level-requires : goal.level-requires
 level-requires c =
@@ -19,12 +19,12 @@ level-requires c =
     omega (
       arith,
       reads_say (length a.d.now) (length a.s.now) 0 a.x a.y a.z
-          (test_holds c.reads_fit.ensures c.if-not-reads_fit.false),
+          (sym c.reads_fit.ensures ∙ c.if-not-reads_fit.false),
     )
 
 pub returns : goal.returns
 returns c =
     let a = c.args in
     was_done (reads_fit (length a.d.now) (length a.s.now) 0 a.x a.y a.z) a.d.now
-    (test_holds c.reads_fit.ensures c.if-not-reads_fit.false)
+    (sym c.reads_fit.ensures ∙ c.if-not-reads_fit.false)
     c.level.ensures

@@ -12,20 +12,20 @@ returns-then-m-c c = let a = c.args in rw (lt-leb a.c a.m (omega arith))
 pub returns-then-not-room : goal.returns-then-not-room
 returns-then-not-room c =
     let a = c.args in
-    simp (le-leb a.c a.m (omega arith), test_fails c.room.ensures c.if-not-room.taken)
+    simp (le-leb a.c a.m (omega arith), sym c.room.ensures ∙ c.if-not-room.true)
 
 pub returns-then-not-room-2 : goal.returns-then-not-room-2
 returns-then-not-room-2 c =
     let a = c.args in
     simp (
       le-leb a.c a.m (omega arith),
-      test_holds c.room.ensures c.if-not-room.false,
-      test_fails c.room-2.ensures c.if-not-room-2.taken,
+      sym c.room.ensures ∙ c.if-not-room.false,
+      sym c.room-2.ensures ∙ c.if-not-room-2.true,
     )
 
 pub returns : goal.returns
 returns c =
     let a = c.args in
     c.room-3.ensures
-    ∙ fourth _ (le-leb a.c a.m (omega arith)) (test_holds c.room.ensures c.if-not-room.false)
-    (test_holds c.room-2.ensures c.if-not-room-2.false)
+    ∙ fourth _ (le-leb a.c a.m (omega arith)) (sym c.room.ensures ∙ c.if-not-room.false)
+    (sym c.room-2.ensures ∙ c.if-not-room-2.false)

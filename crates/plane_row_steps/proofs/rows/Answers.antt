@@ -9,16 +9,16 @@ use Rattle.plane_row_steps.proofs.rows.Goals as goal
 pub returns-then-not-rows_fit : goal.returns-then-not-rows_fit
 returns-then-not-rows_fit c =
     let a = c.args in
-    was_kept (rows_fit (length a.d.now) (length a.src.now) a.s) a.d.now (test_fails c.rows_fit.ensures c.if-not-rows_fit.taken)
+    was_kept (rows_fit (length a.d.now) (length a.src.now) a.s) a.d.now (sym c.rows_fit.ensures ∙ c.if-not-rows_fit.true)
 
 pub all-requires : goal.all-requires
 all-requires c =
     let a = c.args in
-    rows_say (length a.d.now) (length a.src.now) a.s (test_holds c.rows_fit.ensures c.if-not-rows_fit.false)
+    rows_say (length a.d.now) (length a.src.now) a.s (sym c.rows_fit.ensures ∙ c.if-not-rows_fit.false)
 
 pub returns : goal.returns
 returns c =
     let a = c.args in
     was_done (rows_fit (length a.d.now) (length a.src.now) a.s) a.d.now
-    (test_holds c.rows_fit.ensures c.if-not-rows_fit.false)
+    (sym c.rows_fit.ensures ∙ c.if-not-rows_fit.false)
     c.all.ensures

@@ -9,18 +9,18 @@ pub returns-then-not-stage_fits : goal.returns-then-not-stage_fits
 returns-then-not-stage_fits c =
     let a = c.args in
     was_kept (stage_fits a.outside a.gw a.gh (length a.src.now) (length a.dst.now)) a.dst.now
-    (test_fails c.stage_fits.ensures c.if-not-stage_fits.taken)
+    (sym c.stage_fits.ensures ∙ c.if-not-stage_fits.true)
 
 pub take-requires : goal.take-requires
 take-requires c =
     let a = c.args in
     six 1 a.gh a.gw 65535 a.gh 65535 a.outside 1 (plane_size a.gw a.gh) (length a.src.now) (plane_size a.gw a.gh)
     (length a.dst.now)
-    (holds (test_holds c.stage_fits.ensures c.if-not-stage_fits.false))
+    (holds (sym c.stage_fits.ensures ∙ c.if-not-stage_fits.false))
 
 pub returns : goal.returns
 returns c =
     let a = c.args in
     was_done (stage_fits a.outside a.gw a.gh (length a.src.now) (length a.dst.now)) a.dst.now
-    (test_holds c.stage_fits.ensures c.if-not-stage_fits.false)
+    (sym c.stage_fits.ensures ∙ c.if-not-stage_fits.false)
     c.take.ensures

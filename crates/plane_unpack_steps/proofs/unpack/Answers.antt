@@ -10,17 +10,17 @@ pub returns-then-not-unpack_fits : goal.returns-then-not-unpack_fits
 returns-then-not-unpack_fits c =
     let a = c.args in
     was_kept (unpack_fits a.o a.w a.h a.gw a.gh a.a a.b (length a.src.now) (length a.dst.now)) a.dst.now
-    (test_fails c.unpack_fits.ensures c.if-not-unpack_fits.taken)
+    (sym c.unpack_fits.ensures ∙ c.if-not-unpack_fits.true)
 
 pub down-requires : goal.down-requires
 down-requires c =
     let a = c.args in
     unpack_says a.o a.w a.h a.gw a.gh a.a a.b (length a.src.now) (length a.dst.now)
-    (test_holds c.unpack_fits.ensures c.if-not-unpack_fits.false)
+    (sym c.unpack_fits.ensures ∙ c.if-not-unpack_fits.false)
 
 pub returns : goal.returns
 returns c =
     let a = c.args in
     was_done (unpack_fits a.o a.w a.h a.gw a.gh a.a a.b (length a.src.now) (length a.dst.now)) a.dst.now
-    (test_holds c.unpack_fits.ensures c.if-not-unpack_fits.false)
+    (sym c.unpack_fits.ensures ∙ c.if-not-unpack_fits.false)
     c.down.ensures

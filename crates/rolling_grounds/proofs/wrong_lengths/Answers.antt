@@ -1,7 +1,7 @@
 -- Sides that pass are at most 240, so their product does not wrap; the live frame's length, then the kept one's.
 use native.Mathlib.Omega.{arith}
 use borrow.Author.Rules.{rules}
-use borrow.Author.Tests.{eq_eqb, ne_eqb}
+use borrow.Author.Tests.{eq-eqb, ne_eqb}
 use mathlib.Core.Path.{sym, ◌∙◌, ap, subst}
 use mathlib.Core.Bool.{not}
 use Prim.Native.Nat.{◌*◌}
@@ -33,4 +33,4 @@ returns c z =
     let a = c.before.before.before.before.before.args in
     sym
     (or_rest (wrong_length a.w a.h a.live.now) (wrong_length a.w a.h a.kept.now)
-    (ap not (eq_eqb (length a.live.now) (a.w * a.h) c.if2.false)))
+    (ap not (eq-eqb (length a.live.now) (a.w * a.h) c.if2.false)))

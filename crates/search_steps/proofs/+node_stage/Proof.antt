@@ -8,7 +8,7 @@ use mathlib.Core.Logic.{⊎_elim}
 use native.Mathlib.Omega.{arith}
 use lib.Dec.{eqb→eq}
 use lib.ListN.{length, get_or}
-use Rattle.plane.proofs.Tests.{eq_eqb}
+use Rattle.plane.proofs.Tests.{eq-eqb}
 use Rattle.masks.proofs.Cells.{stage_below as mask_below}
 use Rattle.completions.specs.Completing.{aim_of, partial_sum}
 use Rattle.rows.proofs.Known.{field_length}
@@ -88,7 +88,7 @@ node_stage_requires t c κs =
     let st = c.before.before.before.before.before.before in
     let l = c.before.before.before.loop in
     let f = l.invariant.1.from in
-    (omega arith, (omega arith, (eq_eqb c.if2.true, st.requires.1.1)))
+    (omega arith, (omega arith, (eq-eqb c.if2.true, st.requires.1.1)))
 
 node_returns_2 : (t : ℕ) → node-lts.Need-returns-2 (node_claims t) (node_at t) node.Post node_Inv-loop node_μ_loop
 node_returns_2 t c =

@@ -23,7 +23,7 @@ returns-then-not-may_sum c =
     g.0 p.ensures.table v.ensures
     (subst (λ (n : ℕ). Drawn l.marks 512 l.list n) whole p.ensures.list) in
     no_plan l.marks a.cells v.result l.nums (take (l.n - 0) l.list) p.ensures.marks asked a.w a.h g.0 g.1
-    (c.may_sum.ensures (not-true _ c.if-not-may_sum.true))
+    (c.may_sum.ensures (c.if-not-may_sum.true))
 
 pub by_length-requires : goal.by_length-requires
 by_length-requires c =

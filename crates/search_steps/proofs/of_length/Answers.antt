@@ -11,7 +11,7 @@ returns-then-not-may_sum c =
     let st = c in
     let a = st.args in
     no_answer a.marks.now a.cells a.need a.nums.now a.cand.now st.requires.1 a.k
-    (c.may_sum.ensures (not-true _ c.if-not-may_sum.true))
+    (c.may_sum.ensures (c.if-not-may_sum.true))
 
 pub node-requires : goal.node-requires
 node-requires c =

@@ -6,7 +6,7 @@ use Rattle.rows.proofs.Known.{field16}
 use Rattle.shape_calls.proofs.write_shape.Goals as goal
 
 pub returns-then-not-s : goal.returns-then-not-s
-returns-then-not-s c = let st = c in write_far st.args.s st.args.out.now (not-true _ c.if-not-s.true)
+returns-then-not-s c = let st = c in write_far st.args.s st.args.out.now (c.if-not-s.true)
 
 pub returns-then-n-eq0 : goal.returns-then-n-eq0
 returns-then-n-eq0 c =
@@ -14,7 +14,7 @@ returns-then-n-eq0 c =
     let e = c in
     let st = e in
     let s = st.args.s in
-    let f = not-false _ e.if-not-s.false in
+    let f = e.if-not-s.false in
     let win = e.window-cells in
     let R = field16 s.rows _ st.well-formed.0.1.1.1.1.1.0 in
     let l = window_words s R (fits_sound s st.requires f) win.result (field16 win.result.rows _ win.type-inv.1.1.1.1.0) win.ensures in
@@ -26,7 +26,7 @@ returns c =
     let e = c in
     let st = e in
     let s = st.args.s in
-    let f = not-false _ e.if-not-s.false in
+    let f = e.if-not-s.false in
     let win = e.window-cells in
     let R = field16 s.rows _ st.well-formed.0.1.1.1.1.1.0 in
     let l = window_words s R (fits_sound s st.requires f) win.result (field16 win.result.rows _ win.type-inv.1.1.1.1.0) win.ensures in

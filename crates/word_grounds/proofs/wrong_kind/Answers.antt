@@ -4,7 +4,7 @@ use mathlib.Core.Path.{◌≡◌, refl, sym, ◌∙◌, ap}
 use mathlib.Core.Bool.{not}
 use Prim.Native.Nat.{◌-◌}
 use lib.ListN.{length, drop}
-use borrow.Author.Tests.{eq_eqb, ne_eqb}
+use borrow.Author.Tests.{eq-eqb, ne_eqb}
 use Rattle.words.specs.Word.{wrong_kind}
 use Rattle.plane.specs.Lists.{any}
 use Rattle.plane.proofs.Member.{any_hit, any_miss, any_end}
@@ -23,7 +23,7 @@ pub loop-i-preserved : goal.loop-i-preserved
 loop-i-preserved c =
     let h = c.loop-i in
     let st = c.args in
-    h.invariant ∙ any_miss st.ws.now h.i 0 (wrong_kind st.kind) (omega arith) (ap not (eq_eqb _ _ c.if-ws-i.false))
+    h.invariant ∙ any_miss st.ws.now h.i 0 (wrong_kind st.kind) (omega arith) (ap not (eq-eqb _ _ c.if-ws-i.false))
 
 pub returns : goal.returns
 returns c =

@@ -28,9 +28,9 @@ overflow_add-result c =
     let w = st.args.w in
     let W = field16 w.rows _ st.well-formed.0.1.1.1.1.0 in
     let some = e3.empty.ensures.1 e3.if-empty.false in
-    let I = first_at column (At w.rows) k.first_column_lem.result k.first_column_lem.ensures some in
+    let I = first_at column (At w.rows) k.first_column-i.result k.first_column-i.ensures some in
     let J = first_at row (At w.rows) k.first_row-j.result k.first_row-j.ensures some in
-    let l = least_x w.rows k.first_column_lem.result W I in
+    let l = least_x w.rows k.first_column-i.result W I in
     omega arith
 
 pub overflow_cast-result : goal.overflow_cast-result
@@ -41,7 +41,7 @@ overflow_cast-result c =
     let w = st.args.w in
     let W = field16 w.rows _ st.well-formed.0.1.1.1.1.0 in
     let some = e3.empty.ensures.1 e3.if-empty.false in
-    let I = first_at column (At w.rows) k.first_column_lem.result k.first_column_lem.ensures some in
+    let I = first_at column (At w.rows) k.first_column-i.result k.first_column-i.ensures some in
     let J = first_at row (At w.rows) k.first_row-j.result k.first_row-j.ensures some in
     let l = least_y w.rows k.first_row-j.result W J in
     record { fits = omega arith }
@@ -54,7 +54,7 @@ overflow_add-result-2 c =
     let w = st.args.w in
     let W = field16 w.rows _ st.well-formed.0.1.1.1.1.0 in
     let some = e3.empty.ensures.1 e3.if-empty.false in
-    let I = first_at column (At w.rows) k.first_column_lem.result k.first_column_lem.ensures some in
+    let I = first_at column (At w.rows) k.first_column-i.result k.first_column-i.ensures some in
     let J = first_at row (At w.rows) k.first_row-j.result k.first_row-j.ensures some in
     let l = least_y w.rows k.first_row-j.result W J in
     omega arith
@@ -67,8 +67,8 @@ returns c =
     let w = st.args.w in
     let W = field16 w.rows _ st.well-formed.0.1.1.1.1.0 in
     let some = e3.empty.ensures.1 e3.if-empty.false in
-    let I = first_at column (At w.rows) k.first_column_lem.result k.first_column_lem.ensures some in
+    let I = first_at column (At w.rows) k.first_column-i.result k.first_column-i.ensures some in
     let J = first_at row (At w.rows) k.first_row-j.result k.first_row-j.ensures some in
     let G : Anchored w = record { in_x = e3.if-ax-gt15.false; in_y = e3.if-ay-gt15.false; some = some } in
     let r = c.lowered in
-    from_made w W G k.first_column_lem.result k.first_row-j.result I J r.result (rows16 r.result _ r.type-inv) r.ensures
+    from_made w W G k.first_column-i.result k.first_row-j.result I J r.result (rows16 r.result _ r.type-inv) r.ensures

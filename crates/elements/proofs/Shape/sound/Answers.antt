@@ -11,7 +11,7 @@ use Rattle.elements.proofs.Stands.{some, is_sound, sound_within}
 use Rattle.elements.proofs.Shape.sound.Goals as goal
 
 pub returns-then-not-self : goal.returns-then-not-self
-returns-then-not-self c = let s = c.args.self in answer_no (λ S. one_answer s.fits S.fits (not-true s.fits c.if-not-self.true))
+returns-then-not-self c = let s = c.args.self in answer_no (λ S. one_answer s.fits S.fits (c.if-not-self.true))
 
 pub returns-then-first_row-ne0 : goal.returns-then-first_row-ne0
 returns-then-first_row-ne0 c =
@@ -25,7 +25,7 @@ returns-then-first_row-ne0 c =
 pub returns-then-first_column-ne0 : goal.returns-then-first_column-ne0
 returns-then-first_column-ne0 c =
     let st = c in
-    let n = c.first_column_lem in
+    let n = c.first_column in
     answer_no
     (λ S. c.if-first_column-ne0.true
     (least_once column (At st.args.self.rows) n.result 0 (first_at column (At st.args.self.rows) n.result n.ensures (some S.left))
@@ -37,8 +37,8 @@ returns c =
     let s = st.args.self in
     let w = field16 s.rows _ st.well-formed.0.1.1.1.1.1.0 in
     let r = c.first_row in
-    let k = c.first_column_lem in (
-      λ t. is_sound s w (not-false _ c.if-not-self.false)
+    let k = c.first_column in (
+      λ t. is_sound s w (c.if-not-self.false)
           (subst (FirstOf row (At s.rows)) c.if-first_row-ne0.false r.ensures)
           (subst (FirstOf column (At s.rows)) c.if-first_column-ne0.false k.ensures) (c.within.ensures.0 t),
       λ f S. c.within.ensures.1 f (some S.top) (sound_within s w S),

@@ -1,5 +1,5 @@
 -- The levels are taken through the stages, and the rows are cut from the planes that stand then.
-use borrow.Author.Tests.{eq_eqb, ne_eqb}
+use borrow.Author.Tests.{eq-eqb, ne_eqb}
 use mathlib.Core.Path.{ap}
 use mathlib.Core.Bool.{cond}
 use Prim.Native.Nat.{◌%◌}
@@ -17,7 +17,7 @@ returns-then-n-eq0 c =
     let q = k.levels-n.ensures in
     let i = k.levels-n.new.1.1.1.1.0 in
     let j = k.levels-n.new.1.1.1.1.1.0 in
-    end_rows st.requires.0 st.requires.1 q i (ap (λ b. cond b i j) (eq_eqb (k.levels-n.result % 2) 0 c.if-n-eq0.true))
+    end_rows st.requires.0 st.requires.1 q i (ap (λ b. cond b i j) (eq-eqb (k.levels-n.result % 2) 0 c.if-n-eq0.true))
     (c.unpack.ensures.done (end_fits st.requires.0 st.requires.1 q).0)
 
 pub returns : goal.returns

@@ -23,7 +23,7 @@ returns-then-t-lt15 c =
     ranged_ap c.fill.ensures
     (λ k lo hi. sym
     (seen_above a.outside a.gw a.gh (plane_cells a.o a.gw a.gh a.src.now) (k + a.a) a.t
-    c.if-t-lt15.taken))
+    c.if-t-lt15.true))
 
 pub returns-then-gh-t : goal.returns-then-gh-t
 returns-then-gh-t c =
@@ -31,7 +31,7 @@ returns-then-gh-t c =
     ranged_ap c.fill-then-gh-t.ensures
     (λ k lo hi. sym
     (seen_under a.outside a.gw a.gh (plane_cells a.o a.gw a.gh a.src.now) (k + a.a) a.t (omega arith)
-    c.if-gh-t.taken))
+    c.if-gh-t.true))
 
 pub overflow_mul-q : goal.overflow_mul-q
 overflow_mul-q c =

@@ -17,7 +17,7 @@ returns-then-e-p c =
     ranged_ap c.fill.ensures
     (λ k lo hi. sym
     (none_seen a.outside (length a.row.now) (pair_bit a.row.now a.more.now a.j) at-if.edge-p.ensures
-    at-if.edge-e.ensures k at-if.if-e-p.taken hi))
+    at-if.edge-e.ensures k at-if.if-e-p.true hi))
 
 pub overflow_sub-b : goal.overflow_sub-b
 overflow_sub-b c = (between c.edge-p.ensures c.edge-e.ensures

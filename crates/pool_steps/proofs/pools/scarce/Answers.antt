@@ -1,4 +1,4 @@
-use Rattle.std.proofs.Common.{◌≡◌, ℕ, ◌+◌, ◌-◌, ◌<◌, ◌≤◌, get_or, sym, subst, ⊎_elim, arith, rules, eq_eqb}
+use Rattle.std.proofs.Common.{◌≡◌, ℕ, ◌+◌, ◌-◌, ◌<◌, ◌≤◌, get_or, sym, subst, ⊎_elim, arith, rules, eq-eqb}
 use Rattle.completions.proofs.Loops.{upto}
 use Rattle.pool_steps.proofs.pools.scarce.Goals as goal
 
@@ -15,7 +15,7 @@ loop-i-preserved c =
             st.loop-i.invariant.1.0,
             (
               st.loop-i.invariant.1.1.0,
-              λ e. upto (λ k. get_or n k 0 ≡ 0) i (st.loop-i.invariant.1.1.1 e) (c.better.ensures.1 w.0.left (eq_eqb _ 18 e)),
+              λ e. upto (λ k. get_or n k 0 ≡ 0) i (st.loop-i.invariant.1.1.1 e) (c.better.ensures.1 w.0.left (eq-eqb _ 18 e)),
             ),
           ))
           c.if-better.branch,

@@ -3,7 +3,7 @@ use native.Mathlib.Omega.{arith}
 use mathlib.Core.Path.{◌≡◌, refl, sym, ◌∙◌}
 use Prim.Native.Nat.{◌-◌}
 use lib.ListN.{length, get_or, drop}
-use borrow.Author.Tests.{eq_eqb, ne_eqb}
+use borrow.Author.Tests.{eq-eqb, ne_eqb}
 use Rattle.plane.proofs.Bits.{no_bits}
 use Rattle.shapes.specs.Shape.{empty_row}
 use Rattle.plane.specs.Lists.{any}
@@ -17,7 +17,7 @@ pub returns-then-ws-i-eq0 : goal.returns-then-ws-i-eq0
 returns-then-ws-i-eq0 c =
     let h = c.loop-i in
     let st = c.args in
-    sym (h.invariant ∙ any_hit st.ws.now h.i 0 empty_row (omega arith) (no_bits 16 (get_or st.ws.now h.i 0) ∙ eq_eqb _ _ c.if-ws-i-eq0.true))
+    sym (h.invariant ∙ any_hit st.ws.now h.i 0 empty_row (omega arith) (no_bits 16 (get_or st.ws.now h.i 0) ∙ eq-eqb _ _ c.if-ws-i-eq0.true))
 
 pub loop-i-preserved : goal.loop-i-preserved
 loop-i-preserved c =
