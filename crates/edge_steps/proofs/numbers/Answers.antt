@@ -14,7 +14,7 @@ pub returns-then-s-eq0 : goal.returns-then-s-eq0
 returns-then-s-eq0 c =
     let st = c in
     let cells = st.args.cells in
-    numbered_none cells (rows16 cells _ st.well-formed.0) _ _ c.clipped.ensures c.tops-s.result c.tops-s.ensures
+    numbered_none cells (rows16 cells _ st.well_formed.0) _ _ c.clipped.ensures c.tops-s.result c.tops-s.ensures
     c.if-s-eq0.true
 
 pub loop-i-init : goal.loop-i-init
@@ -62,7 +62,7 @@ number-v-requires c =
     let e = c in
     let st = e in
     let cells = st.args.cells in
-    fits cells (rows16 cells _ st.well-formed.0) _ e.tops-s.result e.tops-s.ensures e.if-s-eq0.false c.loop-i.i (omega arith)
+    fits cells (rows16 cells _ st.well_formed.0) _ e.tops-s.result e.tops-s.ensures e.if-s-eq0.false c.loop-i.i (omega arith)
 
 pub loop-i-preserved : goal.loop-i-preserved
 unfolding first_direction second_direction middle_of times_of
@@ -85,6 +85,6 @@ returns c =
     let e = c in
     let st = e in
     let cells = st.args.cells in
-    numbered_all cells (rows16 cells _ st.well-formed.0) _ _ e.clipped.ensures e.tops-s.result e.tops-s.ensures
+    numbered_all cells (rows16 cells _ st.well_formed.0) _ _ e.clipped.ensures e.tops-s.result e.tops-s.ensures
     e.if-s-eq0.false h.r
     (λ i l. h.invariant.1.1 i (omega arith))

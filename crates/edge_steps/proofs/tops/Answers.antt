@@ -19,7 +19,7 @@ pub raised-next-requires : goal.raised-next-requires
 raised-next-requires c =
     let at-loop = c in
     let y = at-loop.loop-y.y in
-    let words = (rows16 at-loop.args.cells _ at-loop.well-formed.0).words y in (
+    let words = (rows16 at-loop.args.cells _ at-loop.well_formed.0).words y in (
       omega (arith, bit_in 16 _ _ words (c.first_in.ensures.some (omega arith)).cell),
       (omega (arith, bit_in 16 _ _ words c.last_in.ensures.cell), omega arith),
     )

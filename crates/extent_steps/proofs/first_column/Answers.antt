@@ -16,7 +16,7 @@ returns-then-has c =
     let h = at-loop.loop-first in
     let k = at-loop in
     let a = k.args.a in
-    first_column_of a k.columns-c.result (rows16 a _ k.well-formed.0) k.columns-c.ensures h.first
+    first_column_of a k.columns-c.result (rows16 a _ k.well_formed.0) k.columns-c.ensures h.first
     (from_found column (AtWord k.columns-c.result) h.first h.first 0 h.invariant.1 (c.has.ensures.0 c.if-has.true) refl)
 
 pub loop-first-preserved : goal.loop-first-preserved
@@ -32,6 +32,6 @@ returns c =
     let k = c in
     let a = k.args.a in
     let r = k.columns-c.result in
-    let w = rows16 a _ k.well-formed.0 in
+    let w = rows16 a _ k.well_formed.0 in
     first_column_of a r w k.columns-c.ensures 16
     (from_done column (AtWord r) h.first c.loop-first-test.false h.invariant.1 (word_in_lem a r w k.columns-c.ensures))

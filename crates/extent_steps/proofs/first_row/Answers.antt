@@ -17,7 +17,7 @@ returns-then-a-first-ne0 c =
     let st = c in
     let h = c.loop-first in
     let a = st.args.a in
-    let g = row_cell a (rows16 a _ st.well-formed.0) h.first c.if-a-first-ne0.true in
+    let g = row_cell a (rows16 a _ st.well_formed.0) h.first c.if-a-first-ne0.true in
     from_found row (At a) h.first g.0 h.first h.invariant.1 g.1 refl
 
 pub loop-first-preserved : goal.loop-first-preserved
@@ -31,4 +31,4 @@ returns c =
     let st = c in
     let h = c.loop-first in
     let a = st.args.a in
-    from_done row (At a) h.first c.loop-first-test.false h.invariant.1 (in_y a (rows16 a _ st.well-formed.0))
+    from_done row (At a) h.first c.loop-first-test.false h.invariant.1 (in_y a (rows16 a _ st.well_formed.0))

@@ -10,7 +10,7 @@ use Rattle.extent_steps.proofs.last_column.Goals as goal
 pub loop-last-init : goal.loop-last-init
 loop-last-init c =
     let a = c.args.a in
-    (omega arith, record { below = word_in_lem a c.columns-c.result (rows16 a _ c.well-formed.0) c.columns-c.ensures })
+    (omega arith, record { below = word_in_lem a c.columns-c.result (rows16 a _ c.well_formed.0) c.columns-c.ensures })
 
 pub returns-then-has : goal.returns-then-has
 returns-then-has c =
@@ -18,7 +18,7 @@ returns-then-has c =
     let h = at-loop.loop-last in
     let k = at-loop in
     let a = k.args.a in
-    last_column_of a k.columns-c.result (rows16 a _ k.well-formed.0) k.columns-c.ensures (h.last - 1)
+    last_column_of a k.columns-c.result (rows16 a _ k.well_formed.0) k.columns-c.ensures (h.last - 1)
     (below_found column (AtWord k.columns-c.result) h.last (h.last - 1) (h.last - 1) 0 (omega arith) h.invariant.1
     (c.has.ensures.0 c.if-has.true) refl)
 
@@ -38,4 +38,4 @@ returns c =
     let k = c in
     let a = k.args.a in
     let r = k.columns-c.result in
-    last_column_of a r (rows16 a _ k.well-formed.0) k.columns-c.ensures 16 (below_done column (AtWord r) h.last c.loop-last-test.false h.invariant.1)
+    last_column_of a r (rows16 a _ k.well_formed.0) k.columns-c.ensures 16 (below_done column (AtWord r) h.last c.loop-last-test.false h.invariant.1)

@@ -10,14 +10,14 @@ use Rattle.extents.specs.Extents.{row}
 use Rattle.extent_steps.proofs.last_row.Goals as goal
 
 pub loop-last-init : goal.loop-last-init
-loop-last-init c = (omega arith, record { below = in_y c.args.a (rows16 c.args.a _ c.well-formed.0) })
+loop-last-init c = (omega arith, record { below = in_y c.args.a (rows16 c.args.a _ c.well_formed.0) })
 
 pub returns-then-a-last-ne0 : goal.returns-then-a-last-ne0
 returns-then-a-last-ne0 c =
     let st = c in
     let h = c.loop-last in
     let a = st.args.a in
-    let g = row_cell a (rows16 a _ st.well-formed.0) (h.last - 1) c.if-a-last-ne0.true in
+    let g = row_cell a (rows16 a _ st.well_formed.0) (h.last - 1) c.if-a-last-ne0.true in
     below_found row (At a) h.last (h.last - 1) g.0 (h.last - 1) (omega arith) h.invariant.1 g.1 refl
 
 pub loop-last-preserved : goal.loop-last-preserved

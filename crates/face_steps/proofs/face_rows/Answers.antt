@@ -38,5 +38,5 @@ returns c =
     let cells = st.args.cells in
     let s = st.greatest_of-s in
     let e : h.y ≡ 16 = omega arith in
-    λ i l. rows_done i cells _ (rows16 cells _ st.well-formed.0) l (s.ensures i l) _
+    λ i l. rows_done i cells _ (rows16 cells _ st.well_formed.0) l (s.ensures i l) _
     (subst (λ (k : ℕ). RowsTo i cells (get_or s.result i 0) k (get_or h.r i 0)) e (h.invariant.1 i l))

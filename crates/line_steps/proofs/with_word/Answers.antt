@@ -16,5 +16,5 @@ returns c =
     let ws = st.args.words in
     let i = st.args.i in
     let v = st.args.v in
-    let n = st.well-formed.0.1.0.1 in
+    let n = st.well_formed.0.1.0.1 in
     record { put = λ l. ap (λ k. take k (set ws i v)) (add-one i) ∙ take-suc-set ws i v (omega arith); full = λ l. absurd (omega arith) }

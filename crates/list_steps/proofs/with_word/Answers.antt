@@ -12,7 +12,7 @@ pub returns-in-Row : goal.returns-in-Row
 returns-in-Row c =
     let k = c in
     let st = k in
-    word_row st.args.z (get_or st.args.ws.now st.args.at 0) _ _ (rows16 st.args.z _ st.well-formed.0).rows
+    word_row st.args.z (get_or st.args.ws.now st.args.at 0) _ _ (rows16 st.args.z _ st.well_formed.0).rows
     (sym k.word_at-word.ensures ∙ c.in-Row.is)
 
 pub returns-in_default : goal.returns-in_default

@@ -31,5 +31,5 @@ returns c =
     let h = c.loop-y in
     let a = c.args.a in
     let e : h.y + 2 ≡ 18 = omega arith in
-    led_made _ _ (rows16 a _ c.well-formed.0)
+    led_made _ _ (rows16 a _ c.well_formed.0)
     (subst (λ (n : ℕ). Filled (λ q. get_or a (q - 2) 0) (λ q. 0) 2 n h.r) e h.invariant.1.1)

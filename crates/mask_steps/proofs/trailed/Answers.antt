@@ -22,4 +22,4 @@ returns c =
     let h = c.loop-y in
     let t = c.args.t in
     let e : h.y ≡ 16 = omega arith in
-    trailed_made _ _ (rows16 t _ c.well-formed.0) (subst (λ (n : ℕ). Filled (λ q. get_or t q 0) (λ q. 0) 0 n h.r) e h.invariant.1.1)
+    trailed_made _ _ (rows16 t _ c.well_formed.0) (subst (λ (n : ℕ). Filled (λ q. get_or t q 0) (λ q. 0) 0 n h.r) e h.invariant.1.1)

@@ -26,7 +26,7 @@ pub returns : goal.returns
 returns c =
     let st = c in
     let h = st.args.here in
-    let known = field16 h.target _ st.well-formed.0.1.1.0 in
+    let known = field16 h.target _ st.well_formed.0.1.1.0 in
     let cut = c.carried-sum.ensures in
     let g = c.if-rest-eq0.false in
     let o : get_or h.rest 0 0 / 1 % 2 ≡ 1 = omega arith in

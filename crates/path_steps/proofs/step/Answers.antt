@@ -28,7 +28,7 @@ returns-then-not-reaches c =
     let st = c in
     let h = st.args.here in
     let nums = st.args.nums.now in
-    let known = field16 h.rest _ st.well-formed.0.1.1.1.0 in
+    let known = field16 h.rest _ st.well_formed.0.1.1.1.0 in
     stepped_no nums h st.args.m (λ l permitted r t. step_unmet nums h st.args.m permitted r t known _ c.shrunk-t.ensures
     c.less-left.result (c.less-left.ensures.0 fit.0)
     fit.1 (c.reaches.ensures.1 (c.if-not-reaches.true)))
@@ -38,7 +38,7 @@ returns-then-not-covers c =
     let st = c in
     let h = st.args.here in
     let nums = st.args.nums.now in
-    let known = field16 h.rest _ st.well-formed.0.1.1.1.0 in
+    let known = field16 h.rest _ st.well_formed.0.1.1.1.0 in
     stepped_no nums h st.args.m (λ l permitted r t. step_uncovered nums h st.args.m permitted r t known _
     c.shrunk-t.ensures (c.covers.ensures (c.if-not-covers.true)))
 
@@ -47,8 +47,8 @@ returns c =
     let st = c in
     let h = st.args.here in
     let nums = st.args.nums.now in
-    let known = field16 h.rest _ st.well-formed.0.1.1.1.0 in
-    let long = field_length 32 h.path st.well-formed.0.1.1.1.1.0.1.0.1 in
+    let known = field16 h.rest _ st.well_formed.0.1.1.1.0 in
+    let long = field_length 32 h.path st.well_formed.0.1.1.1.1.0.1.0.1 in
     let fit = c.fits2.ensures.0
     (c.if-not-fits.false) in
     let less = c.less-left.ensures.0 fit.0 in

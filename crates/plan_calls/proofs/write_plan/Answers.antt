@@ -19,7 +19,7 @@ loop-i-init c =
 pub overflow_add-out-in-loop-i : goal.overflow_add-out-in-loop-i
 overflow_add-out-in-loop-i c =
     let st = c in
-    let b = field_below 32 st.args.p.masks _ st.well-formed.1.1.0.1.1.1.1.0 (st.args.p.n - 1 - c.loop-i.i) in
+    let b = field_below 32 st.args.p.masks _ st.well_formed.1.1.0.1.1.1.1.0 (st.args.p.n - 1 - c.loop-i.i) in
     record { fits = omega arith }
 
 pub bounds-out-i : goal.bounds-out-i

@@ -28,12 +28,12 @@ returns-then-count-gt18 c = (
 pub slice_bounds-words-end : goal.slice_bounds-words-end
 slice_bounds-words-end c =
     let st = c in
-    let n = st.well-formed.0.1.1.1.1.0.1.0.1 in omega (arith, length-map st.args.s.words (λ v. v))
+    let n = st.well_formed.0.1.1.1.1.0.1.0.1 in omega (arith, length-map st.args.s.words (λ v. v))
 
 pub slice_bounds-planned-end : goal.slice_bounds-planned-end
 slice_bounds-planned-end c =
     let st = c in
-    let n = st.well-formed.0.1.1.1.1.0.1.0.1 in
+    let n = st.well_formed.0.1.1.1.1.0.1.0.1 in
     sym (length-take-le st.args.s.count st.args.s.words (omega (arith, length-map st.args.s.words (λ v. v))))
 
 pub returns : goal.returns

@@ -13,13 +13,13 @@ pub returns-then-k-gt32 : goal.returns-then-k-gt32
 returns-then-k-gt32 c =
     let k = c in
     let st = k in
-    let n = st.well-formed.1.0.1.0.1 in
+    let n = st.well_formed.1.0.1.0.1 in
     (shows_whole _ _ _ _ k.in-Done.is n (omega arith) c.words_page.ensures, page_rest _ _ c.words_page.ensures)
 
 pub slice_bounds-words_page-end-in-Done : goal.slice_bounds-words_page-end-in-Done
 slice_bounds-words_page-end-in-Done c =
     let st = c in
-    let n = st.well-formed.1.0.1.0.1 in
+    let n = st.well_formed.1.0.1.0.1 in
     sym (length-take-le _ st.args.out (omega arith))
 
 pub returns-else-k-gt32 : goal.returns-else-k-gt32

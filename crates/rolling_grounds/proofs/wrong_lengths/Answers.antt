@@ -13,7 +13,7 @@ use Rattle.frame_grounds.proofs.Sides.{few_cells}
 use Rattle.rolling_grounds.proofs.wrong_lengths.Goals as goal
 
 pub returns-then-bad_size : goal.returns-then-bad_size
-returns-then-bad_size c z = absurd (subst T (sym c.if1.true ∙ c.before.bad-size.ensures ∙ z) tt)
+returns-then-bad_size c z = absurd (subst T (sym c.if-bad_size.true ∙ c.before.bad_size.ensures ∙ z) tt)
 
 pub overflow_mul-n : goal.overflow_mul-n
 overflow_mul-n c =
@@ -26,11 +26,11 @@ returns-then-live-n c z =
     let a = c.before.before.before.before.before.args in
     sym
     (or_first (wrong_length a.w a.h a.live.now) (wrong_length a.w a.h a.kept.now)
-    (ap not (ne_eqb (length a.live.now) (a.w * a.h) c.if2.true)))
+    (ap not (ne_eqb (length a.live.now) (a.w * a.h) c.if-live-n.true)))
 
 pub returns : goal.returns
 returns c z =
     let a = c.before.before.before.before.before.args in
     sym
     (or_rest (wrong_length a.w a.h a.live.now) (wrong_length a.w a.h a.kept.now)
-    (ap not (eq-eqb (length a.live.now) (a.w * a.h) c.if2.false)))
+    (ap not (eq-eqb (length a.live.now) (a.w * a.h) c.if-live-n.false)))

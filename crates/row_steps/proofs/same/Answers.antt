@@ -11,7 +11,7 @@ use Rattle.row_steps.proofs.same.Goals as goal
 
 pub returns-then-a-i : goal.returns-then-a-i
 returns-then-a-i c =
-    let g = c.well-formed in
+    let g = c.well_formed in
     let a = c.args.a in
     let b = c.args.b in
     (λ e. absurd (false≢true e), λ e. rows_differ a b (rows16 a _ g.0) (rows16 b _ g.1.0) c.loop-i.i c.if-a-i.true)
@@ -21,7 +21,7 @@ loop-i-preserved c = (search rules, below_more _ _ c.loop-i.invariant.1 c.if-a-i
 
 pub returns : goal.returns
 returns c =
-    let g = c.well-formed in
+    let g = c.well_formed in
     let a = c.args.a in
     let b = c.args.b in
     (λ e. rows_same a b (rows16 a _ g.0) (rows16 b _ g.1.0) (λ q l. c.loop-i.invariant.1 q (omega arith)), λ e. absurd (true≢false e))

@@ -10,7 +10,7 @@ use Rattle.rows.proofs.Shifts.{anded, and_out, was, under_made}
 use Rattle.row_steps.proofs.under.Goals as goal
 
 pub loop-y-init : goal.loop-y-init
-loop-y-init c = (omega arith, (c.well-formed.0.1.0.1, fill_none _ _ _ _ (λ q. refl)))
+loop-y-init c = (omega arith, (c.well_formed.0.1.0.1, fill_none _ _ _ _ (λ q. refl)))
 
 pub loop-y-preserved : goal.loop-y-preserved
 loop-y-preserved c =
@@ -19,7 +19,7 @@ loop-y-preserved c =
     let inv = c.loop-y.invariant in
     let f = anded st.args.z st.args.t st.args.i st.args.j in
     let e : get_or c.loop-y.r y 0 ≡ get_or st.args.z y 0 = inv.1.1.after y (omega arith) in
-    let lt : length st.args.t ≡ 16 = st.well-formed.1.0.1.0.1 in
+    let lt : length st.args.t ≡ 16 = st.well_formed.1.0.1.0.1 in
     let cut = ap (λ (n : ℕ). bit_and n (get_or st.args.t (y + st.args.j) 0 / 2 ^ st.args.i)) e in
     let out = and_out st.args.z st.args.t st.args.i st.args.j y in (
       omega arith,
@@ -34,5 +34,5 @@ returns c =
     let st = c in
     let inv = c.loop-y.invariant in
     let e : c.loop-y.y ≡ 16 = omega arith in
-    under_made _ _ _ _ st.well-formed.0.1.0.1 _
+    under_made _ _ _ _ st.well_formed.0.1.0.1 _
     (subst (λ (n : ℕ). Filled (anded st.args.z st.args.t st.args.i st.args.j) (was st.args.z) 0 n c.loop-y.r) e inv.1.1)

@@ -9,7 +9,7 @@ use Rattle.rows.proofs.Shifts.{ored, was, onto_made}
 use Rattle.row_sum_steps.proofs.onto.Goals as goal
 
 pub loop-y-init : goal.loop-y-init
-loop-y-init c = (omega arith, (omega arith, (c.well-formed.0.1.0.1, fill_none _ _ _ _ (λ q. refl))))
+loop-y-init c = (omega arith, (omega arith, (c.well_formed.0.1.0.1, fill_none _ _ _ _ (λ q. refl))))
 
 pub loop-y-preserved : goal.loop-y-preserved
 loop-y-preserved c =

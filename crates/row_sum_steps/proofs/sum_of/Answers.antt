@@ -15,7 +15,7 @@ pub loop-j-preserved : goal.loop-j-preserved
 loop-j-preserved c =
     let st = c in
     let h = c.loop-j in
-    let b = rows16 st.args.b _ st.well-formed.1.0 in
+    let b = rows16 st.args.b _ st.well_formed.1.0 in
     let next = SumTo st.args.a st.args.b (h.j + 1) in (
       omega arith,
       ⊎_elim
@@ -28,6 +28,6 @@ pub returns : goal.returns
 returns c =
     let st = c in
     let h = c.loop-j in
-    let b = rows16 st.args.b _ st.well-formed.1.0 in
+    let b = rows16 st.args.b _ st.well_formed.1.0 in
     let e : h.j ≡ 16 = omega arith in
     sum_done st.args.a st.args.b b h.r (subst (λ (n : ℕ). SumTo st.args.a st.args.b n h.r) e h.invariant.1)

@@ -19,7 +19,7 @@ returns-then-not-may_sum c =
     let v = c.numbers-need in
     let g = st.requires.1.1 in
     let whole : l.n ≡ l.n - 0 = omega arith in
-    let asked = questioned l.marks a.cells p.ensures.marks v.result l.nums l.list (l.n - 0) a.w (rows16 a.cells _ st.well-formed.0)
+    let asked = questioned l.marks a.cells p.ensures.marks v.result l.nums l.list (l.n - 0) a.w (rows16 a.cells _ st.well_formed.0)
     g.0 p.ensures.table v.ensures
     (subst (λ (n : ℕ). Drawn l.marks 512 l.list n) whole p.ensures.list) in
     no_plan l.marks a.cells v.result l.nums (take (l.n - 0) l.list) p.ensures.marks asked a.w a.h g.0 g.1
@@ -34,7 +34,7 @@ by_length-requires c =
     let v = c.numbers-need in
     let g = st.requires.1.1 in
     let whole : l.n ≡ l.n - 0 = omega arith in
-    let asked = questioned l.marks a.cells p.ensures.marks v.result l.nums l.list (l.n - 0) a.w (rows16 a.cells _ st.well-formed.0)
+    let asked = questioned l.marks a.cells p.ensures.marks v.result l.nums l.list (l.n - 0) a.w (rows16 a.cells _ st.well_formed.0)
     g.0 p.ensures.table v.ensures
     (subst (λ (n : ℕ). Drawn l.marks 512 l.list n) whole p.ensures.list) in
     (omega arith, (omega arith, (g, (p.ensures.marks, asked))))

@@ -20,5 +20,5 @@ deepening-requires c =
     let some = c.empty.ensures.1 c.if-empty.false in
     let w = last_at column _ _ c.last_column-w.ensures some in
     let h = last_at row _ _ c.last_row-h.ensures some in
-    let r = rows16 st.args.cells _ st.well-formed.0 in
+    let r = rows16 st.args.cells _ st.well_formed.0 in
     (wide_in st.args.cells r _ w, (high_in st.args.cells r _ h, (w, h)))

@@ -7,6 +7,6 @@ use Rattle.search_steps.proofs.too_many.Goals as goal
 
 pub overflow_add-result : goal.overflow_add-result
 overflow_add-result c =
-    let g = c.well-formed.0 in
+    let g = c.well_formed.0 in
     let a = array_below w8 c.args.need g.0 g.1.1 in
     omega (arith, a 16, a 17)

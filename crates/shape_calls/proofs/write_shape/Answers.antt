@@ -16,7 +16,7 @@ returns-then-n-eq0 c =
     let s = st.args.s in
     let f = e.if-not-s.false in
     let win = e.window-cells in
-    let R = field16 s.rows _ st.well-formed.0.1.1.1.1.1.0 in
+    let R = field16 s.rows _ st.well_formed.0.1.1.1.1.1.0 in
     let l = window_words s R (fits_sound s st.requires f) win.result (field16 win.result.rows _ win.type-inv.1.1.1.1.0) win.ensures in
     write_short s st.args.out.now f _ l w.result _ w.ensures c.if-n-eq0.true
 
@@ -28,6 +28,6 @@ returns c =
     let s = st.args.s in
     let f = e.if-not-s.false in
     let win = e.window-cells in
-    let R = field16 s.rows _ st.well-formed.0.1.1.1.1.1.0 in
+    let R = field16 s.rows _ st.well_formed.0.1.1.1.1.1.0 in
     let l = window_words s R (fits_sound s st.requires f) win.result (field16 win.result.rows _ win.type-inv.1.1.1.1.0) win.ensures in
     write_done s st.args.out.now f _ l w.result _ w.ensures c.if-n-eq0.false

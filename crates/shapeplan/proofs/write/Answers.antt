@@ -9,11 +9,11 @@ use Rattle.shapeplan.proofs.write.Goals as goal
 pub slice_bounds-bytes-end : goal.slice_bounds-bytes-end
 slice_bounds-bytes-end c =
     let st = c in
-    let n = st.well-formed.0.1.1.1.0.1.0.1 in
+    let n = st.well_formed.0.1.1.1.0.1.0.1 in
     omega (arith, length-map st.args.p.bytes (λ v. v))
 
 pub slice_bounds-write_all-end : goal.slice_bounds-write_all-end
 slice_bounds-write_all-end c =
     let st = c in
-    let n = st.well-formed.0.1.1.1.0.1.0.1 in
+    let n = st.well_formed.0.1.1.1.0.1.0.1 in
     sym (length-take-le st.args.p.n st.args.p.bytes (omega (arith, length-map st.args.p.bytes (λ v. v))))

@@ -18,7 +18,7 @@ loop-y-init c =
 pub overflow_add-out-then-columns-gt0-2 : goal.overflow_add-out-then-columns-gt0-2
 overflow_add-out-then-columns-gt0-2 c =
     let st = c in
-    let b = (rows16 st.args.rows _ st.well-formed.1.1.0).words c.loop-y.y in
+    let b = (rows16 st.args.rows _ st.well_formed.1.1.0).words c.loop-y.y in
     record { fits = omega arith }
 
 pub loop-y-preserved : goal.loop-y-preserved

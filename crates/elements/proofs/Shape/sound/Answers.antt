@@ -35,7 +35,7 @@ pub returns : goal.returns
 returns c =
     let st = c in
     let s = st.args.self in
-    let w = field16 s.rows _ st.well-formed.0.1.1.1.1.1.0 in
+    let w = field16 s.rows _ st.well_formed.0.1.1.1.1.1.0 in
     let r = c.first_row in
     let k = c.first_column in (
       λ t. is_sound s w (c.if-not-self.false)

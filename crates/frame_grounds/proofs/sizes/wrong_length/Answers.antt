@@ -7,7 +7,7 @@ use Rattle.frame_grounds.proofs.Sides.{few_cells}
 use Rattle.frame_grounds.proofs.sizes.wrong_length.Goals as goal
 
 pub returns-then-bad_size : goal.returns-then-bad_size
-returns-then-bad_size c z = absurd (subst T (sym c.if1.true ∙ c.before.bad-size.ensures ∙ z) tt)
+returns-then-bad_size c z = absurd (subst T (sym c.if-bad_size.true ∙ c.before.bad_size.ensures ∙ z) tt)
 
 pub overflow_mul-result : goal.overflow_mul-result
 overflow_mul-result c =

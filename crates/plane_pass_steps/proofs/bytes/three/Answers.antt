@@ -9,4 +9,4 @@ use Rattle.plane_pass_steps.proofs.bytes.three.Goals as goal
 pub returns : goal.returns
 returns c q =
     let a = c.before.before.args in
-    c.both2.ensures q ∙ ap (λ (n : ℕ). bit_pick a.erode n (bit a.c q)) (c.before.both.ensures q)
+    c.both-2.ensures q ∙ ap (λ (n : ℕ). bit_pick a.erode n (bit a.c q)) (c.before.both.ensures q)

@@ -7,7 +7,7 @@ pub returns-then-m-ge512 : goal.returns-then-m-ge512
 returns-then-m-ge512 c = (λ l. absurd (omega arith), λ l. refl)
 
 pub loop-i-init : goal.loop-i-init
-loop-i-init c = (omega arith, (c.well-formed.0.1.0.1, (λ k l. absurd (omega arith), λ k l. refl)))
+loop-i-init c = (omega arith, (c.well_formed.0.1.0.1, (λ k l. absurd (omega arith), λ k l. refl)))
 
 pub loop-i-preserved : goal.loop-i-preserved
 loop-i-preserved c =
