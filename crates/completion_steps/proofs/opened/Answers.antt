@@ -10,7 +10,7 @@ returns-then-not-roomy c =
     let st = c in
     let h = st.args.here in
     opened_outside st.args.nums.now st.args.cand.now h st.args.m st.args.k
-    (λ r. c.roomy.ensures.1 (c.if-not-roomy.true) r.list r.path)
+    (λ r. c.roomy.ensures.no (c.if-not-roomy.true) r.list r.path)
 
 pub returns-then-not-c : goal.returns-then-not-c
 returns-then-not-c c =
@@ -20,7 +20,7 @@ returns-then-not-c c =
 
 pub node-requires : goal.node-requires
 node-requires c =
-    let room = c.roomy.ensures.0 (c.if-not-roomy.false) in
+    let room = c.roomy.ensures.yes (c.if-not-roomy.false) in
     let n = (c.step-c.ensures.below.longer (c.if-not-c.false)).1 in
     (omega (arith, room.1, n), room.0)
 
@@ -35,7 +35,7 @@ pub returns : goal.returns
 returns c =
     let st = c in
     let h = st.args.here in
-    let room = c.roomy.ensures.0
+    let room = c.roomy.ensures.yes
     (c.if-not-roomy.false) in
     opened_yes st.args.nums.now st.args.cand.now h st.args.m st.args.k _ c.step-c.ensures
     (c.if-not-c.false) (record { list = room.0; path = room.1 })

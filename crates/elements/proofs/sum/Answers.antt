@@ -72,7 +72,7 @@ returns-then-not-within c =
     let l = c.last_row in
     let C = last_at column (At b.rows) k.result k.ensures (some S.1.top) in
     let R = last_at row (At b.rows) l.result l.ensures (some S.1.top) in
-    made_far _ _ _ (λ t. c.within.ensures.1 (c.if-not-within.true) (some S.0.top)
+    made_far _ _ _ (λ t. c.within.ensures.no (c.if-not-within.true) (some S.0.top)
     (fits_in a b wa wb S.0 S.1 e2.if-x-lt15.false e2.if-y-lt15.false k.result l.result C R t)) c.nothing-then-not-within.ensures
 
 pub returns-then-not-within-2 : goal.returns-then-not-within-2
@@ -91,9 +91,9 @@ returns-then-not-within-2 c =
     let R = last_at row (At b.rows) l.result l.ensures (some S.1.top) in
     let r = m.sum_of-r in
     let wr = rows16 r.result _ r.type-inv in
-    let W = m.within.ensures.0 (m.if-not-within.false) in
+    let W = m.within.ensures.yes (m.if-not-within.false) in
     summed_far a b wa wb S.0 S.1 e2.if-x-lt15.false e2.if-y-lt15.false k.result l.result C R r.result wr r.ensures W
-    c.nothing-then-not-within-2.result (c.within-2.ensures.1 (c.if-not-within-2.true)) c.nothing-then-not-within-2.ensures
+    c.nothing-then-not-within-2.result (c.within-2.ensures.no (c.if-not-within-2.true)) c.nothing-then-not-within-2.ensures
 
 pub returns : goal.returns
 returns c =
@@ -111,6 +111,6 @@ returns c =
     let R = last_at row (At b.rows) l.result l.ensures (some S.1.top) in
     let r = m.sum_of-r in
     let wr = rows16 r.result _ r.type-inv in
-    let W = m.within.ensures.0 (m.if-not-within.false) in
+    let W = m.within.ensures.yes (m.if-not-within.false) in
     summed_near a b wa wb S.0 S.1 e2.if-x-lt15.false e2.if-y-lt15.false k.result l.result C R r.result wr r.ensures W
-    (c.within-2.ensures.0 (c.if-not-within-2.false))
+    (c.within-2.ensures.yes (c.if-not-within-2.false))

@@ -19,7 +19,7 @@ returns-then-not-within c =
     let S = st.requires in
     let x = l1.lesser-x in
     let y = l2.lesser-y in
-    made_far _ _ _ (λ t. c.within.ensures.1 (c.if-not-within.true) (some S.0.top)
+    made_far _ _ _ (λ t. c.within.ensures.no (c.if-not-within.true) (some S.0.top)
     (stays_a a b wa wb S.0 S.1 x.result y.result x.ensures y.ensures t)) c.nothing.ensures
 
 pub returns-then-not-within-2 : goal.returns-then-not-within-2
@@ -34,7 +34,7 @@ returns-then-not-within-2 c =
     let S = st.requires in
     let x = l1.lesser-x in
     let y = l2.lesser-y in
-    made_far _ _ _ (λ t. c.within-2.ensures.1 (c.if-not-within-2.true) (some S.1.top)
+    made_far _ _ _ (λ t. c.within-2.ensures.no (c.if-not-within-2.true) (some S.1.top)
     (stays_b a b wa wb S.0 S.1 x.result y.result x.ensures y.ensures t)) c.nothing-then-not-within-2.ensures
 
 pub returns : goal.returns
@@ -53,8 +53,8 @@ returns c =
     let rb = c.raised-2 in
     let r = c.joined in
     let i2 = c in
-    let IA = i2.within.ensures.0 (i2.if-not-within.false) in
-    let IB = i2.within-2.ensures.0 (i2.if-not-within-2.false) in
+    let IA = i2.within.ensures.yes (i2.if-not-within.false) in
+    let IB = i2.within-2.ensures.yes (i2.if-not-within-2.false) in
     joined_made a b wa wb S.0 S.1 x.result y.result x.ensures y.ensures ra.result rb.result r.result
     (rows16 r.result _ r.type-inv) ra.ensures rb.ensures
     r.ensures IA IB

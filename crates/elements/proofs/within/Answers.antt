@@ -32,10 +32,7 @@ returns c =
     let p = c.if-limit-i.false in
     let q = c.if-limit-j.false in
     let u = c.if-limit-i-2.false in
-    let n = a.limit - a.j in (
-      λ t. within_yes (At a.a) a.i a.j a.limit last.result c.last_row.result last.ensures c.last_row.ensures p q u
-          (leb-true c.last_row.result n t),
-      λ t s w. let b = within_no (At a.a) a.i a.j a.limit last.result c.last_row.result last.ensures c.last_row.ensures s w in
+    let n = a.limit - a.j in record { yes = λ t. within_yes (At a.a) a.i a.j a.limit last.result c.last_row.result last.ensures c.last_row.ensures p q u
+          (leb-true c.last_row.result n t); no = λ t s w. let b = within_no (At a.a) a.i a.j a.limit last.result c.last_row.result last.ensures c.last_row.ensures s w in
           let l = leb-false c.last_row.result n t in
-          omega arith,
-    )
+          omega arith }

@@ -8,10 +8,10 @@ use Rattle.end_steps.proofs.rows.Goals as goal
 
 able : (c : goal.Else-not-workable) → let a = c.args in
     EndPart a.plan.now a.w a.e a.part.now a.s a.t a.d.now
-able c = c.workable.ensures.0 (c.if-not-workable.false)
+able c = c.workable.ensures.yes (c.if-not-workable.false)
 
 pub returns-then-not-workable : goal.returns-then-not-workable
-returns-then-not-workable c = record { through = λ q. absurd (c.workable.ensures.1 (c.if-not-workable.true) q); unchanged = λ _. refl }
+returns-then-not-workable c = record { through = λ q. absurd (c.workable.ensures.no (c.if-not-workable.true) q); unchanged = λ _. refl }
 
 pub by_two-requires : goal.by_two-requires
 by_two-requires c = able c

@@ -7,7 +7,4 @@ use Rattle.extent_steps.proofs.empty.Goals as goal
 
 pub returns : goal.returns
 returns c =
-    let a = c.args.a in (
-      λ e. first_none a _ (rows16 a _ c.well_formed.0) c.first_row.ensures (eqb-true _ _ e),
-      λ e. first_some _ _ c.first_row.ensures (eqb-false _ _ e),
-    )
+    let a = c.args.a in record { yes = λ e. first_none a _ (rows16 a _ c.well_formed.0) c.first_row.ensures (eqb-true _ _ e); no = λ e. first_some _ _ c.first_row.ensures (eqb-false _ _ e) }

@@ -17,14 +17,14 @@ returns-then-has c =
     let k = at-loop in
     let a = k.args.a in
     first_column_of a k.columns-c.result (rows16 a _ k.well_formed.0) k.columns-c.ensures h.first
-    (from_found column (AtWord k.columns-c.result) h.first h.first 0 h.invariant.1 (c.has.ensures.0 c.if-has.true) refl)
+    (from_found column (AtWord k.columns-c.result) h.first h.first 0 h.invariant.1 (c.has.ensures.yes c.if-has.true) refl)
 
 pub loop-first-preserved : goal.loop-first-preserved
 loop-first-preserved c =
     let at-loop = c in
     let h = at-loop.loop-first in
     let r = at-loop.columns-c.result in
-    (omega arith, from_more column (AtWord r) h.first h.invariant.1 (word_clear r h.first (c.has.ensures.1 c.if-has.false)))
+    (omega arith, from_more column (AtWord r) h.first h.invariant.1 (word_clear r h.first (c.has.ensures.no c.if-has.false)))
 
 pub returns : goal.returns
 returns c =

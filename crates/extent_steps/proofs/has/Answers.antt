@@ -4,4 +4,4 @@ use borrow.Author.Rules.{rules}
 use Rattle.extent_steps.proofs.has.Goals as goal
 
 pub returns : goal.returns
-returns c = (λ e. eqb-true _ _ e, λ e. eqb-false _ _ e)
+returns c = record { yes = λ e. eqb-true _ _ e; no = λ e. eqb-false _ _ e }

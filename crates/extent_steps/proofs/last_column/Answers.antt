@@ -20,7 +20,7 @@ returns-then-has c =
     let a = k.args.a in
     last_column_of a k.columns-c.result (rows16 a _ k.well_formed.0) k.columns-c.ensures (h.last - 1)
     (below_found column (AtWord k.columns-c.result) h.last (h.last - 1) (h.last - 1) 0 (omega arith) h.invariant.1
-    (c.has.ensures.0 c.if-has.true) refl)
+    (c.has.ensures.yes c.if-has.true) refl)
 
 pub loop-last-preserved : goal.loop-last-preserved
 loop-last-preserved c =
@@ -29,7 +29,7 @@ loop-last-preserved c =
     let r = at-loop.columns-c.result in (
       omega arith,
       below_less column (AtWord r) h.last (h.last - 1) (omega arith) h.invariant.1
-          (word_clear r (h.last - 1) (c.has.ensures.1 c.if-has.false)),
+          (word_clear r (h.last - 1) (c.has.ensures.no c.if-has.false)),
     )
 
 pub returns : goal.returns

@@ -16,13 +16,13 @@ pub returns-then-not-fair : goal.returns-then-not-fair
 unfolding only_of
 returns-then-not-fair c =
     let i = c.loop-i.i in
-    (λ e. absurd (false≢true e), λ e. record { i = i; inside = omega arith; never = c.fair.ensures.1 (c.if-not-fair.true) })
+    record { yes = λ e. absurd (false≢true e); no = λ e. record { i = i; inside = omega arith; never = c.fair.ensures.no (c.if-not-fair.true) } }
 
 pub loop-i-preserved : goal.loop-i-preserved
 unfolding only_of
 loop-i-preserved c =
     let h = c.loop-i in
-    (omega arith, below_more _ h.i h.invariant.1 (c.fair.ensures.0 (c.if-not-fair.false)))
+    (omega arith, below_more _ h.i h.invariant.1 (c.fair.ensures.yes (c.if-not-fair.false)))
 
 pub returns : goal.returns
-returns c = (λ e. record { fair = λ i l. c.loop-i.invariant.1 i (omega arith) }, λ e. absurd (true≢false e))
+returns c = record { yes = λ e. record { fair = λ i l. c.loop-i.invariant.1 i (omega arith) }; no = λ e. absurd (true≢false e) }

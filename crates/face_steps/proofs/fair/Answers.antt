@@ -10,14 +10,14 @@ use Rattle.face_steps.proofs.fair.Goals as goal
 )
 
 pub returns-then-spaced : goal.returns-then-spaced
-returns-then-spaced c = (λ e. inl (λ z. omega arith, c.spaced.ensures.0 c.if-spaced.true), λ e. absurd (true≢false e))
+returns-then-spaced c = record { yes = λ e. inl (λ z. omega arith, c.spaced.ensures.yes c.if-spaced.true); no = λ e. absurd (true≢false e) }
 
 pub returns-then-only-ne1 : goal.returns-then-only-ne1
 returns-then-only-ne1 c = (
-  λ e. inr (λ z. omega arith, c.spaced-then-only-ne1.ensures.0 e),
+  λ e. inr (λ z. omega arith, c.spaced-then-only-ne1.ensures.yes e),
   λ e. ⊎_elim
       (λ s. ⊎_elim (λ w. w.1.ensures.1 w.2.left s.1) (λ w. s.0 (omega (arith, w.left))) c.if-only-ne2.branch)
-      (λ s. c.spaced-then-only-ne1.ensures.1 e s.1),
+      (λ s. c.spaced-then-only-ne1.ensures.no e s.1),
 
 pub returns : goal.returns
 returns c = (

@@ -12,7 +12,7 @@ use Rattle.face_steps.proofs.lone.Goals as goal
 
 pub returns-then-b-eq0 : goal.returns-then-b-eq0
 returns-then-b-eq0 c =
-    (λ e. record { same = λ j k p q. absurd (no_bit j (subst (λ (n : ℕ). bit n j ≡ 1) c.if-b-eq0.true p)) }, λ e. absurd (true≢false e))
+    record { yes = λ e. record { same = λ j k p q. absurd (no_bit j (subst (λ (n : ℕ). bit n j ≡ 1) c.if-b-eq0.true p)) }; no = λ e. absurd (true≢false e) }
 
 pub overflow_shr-result : goal.overflow_shr-result
 overflow_shr-result c = omega (arith, bit_in 16 _ _ (omega arith) (c.first_in.ensures.some (omega arith)).cell)
@@ -20,4 +20,4 @@ overflow_shr-result c = omega (arith, bit_in 16 _ _ (omega arith) (c.first_in.en
 pub returns : goal.returns
 returns c =
     let f = c.first_in.ensures.some (omega arith) in
-    (λ e. lone_of _ _ f (omega (arith, eqb-true)), λ e. two_of _ _ f (omega arith) (eqb-false _ _ e))
+    record { yes = λ e. lone_of _ _ f (omega (arith, eqb-true)); no = λ e. two_of _ _ f (omega arith) (eqb-false _ _ e) }

@@ -14,7 +14,7 @@ returns-then-not-fair c =
     let faces = f in
     let cells = faces.args.cells in
     let w = columns_shown 4 level_4 cells _ _ (faces.face_rows-rows.ensures 4 (omega arith)) f.row_at.ensures in
-    (λ e. absurd (false≢true e), λ e. no_columns (At cells) 4 (λ s. f.fair.ensures.1 (c.if-not-fair.true) (into_bits w s)))
+    record { yes = λ e. absurd (false≢true e); no = λ e. no_columns (At cells) 4 (λ s. f.fair.ensures.no (c.if-not-fair.true) (into_bits w s)) }
 
 pub returns-then-not-fair-2 : goal.returns-then-not-fair-2
 returns-then-not-fair-2 c =
@@ -22,7 +22,7 @@ returns-then-not-fair-2 c =
     let faces = f in
     let cells = faces.args.cells in
     let w = columns_shown 12 level_12 cells _ _ (faces.face_rows-rows.ensures 12 (omega arith)) f.row_at-2.ensures in
-    (λ e. absurd (false≢true e), λ e. no_columns (At cells) 12 (λ s. f.fair-2.ensures.1 (c.if-not-fair-2.true) (into_bits w s)))
+    record { yes = λ e. absurd (false≢true e); no = λ e. no_columns (At cells) 12 (λ s. f.fair-2.ensures.no (c.if-not-fair-2.true) (into_bits w s)) }
 
 pub returns : goal.returns
 returns c =
@@ -32,11 +32,8 @@ returns c =
     let cells = faces.args.cells in
     let rows = faces.face_rows-rows.ensures in
     let w4 = columns_shown 4 level_4 cells _ _ (rows 4 (omega arith)) f.row_at.ensures in
-    let w12 = columns_shown 12 level_12 cells _ _ (rows 12 (omega arith)) g.row_at-2.ensures in (
-      λ e. record {
-        rows = λ i l. out_of_bits (rows i l) ((c.all_fair.ensures.0 e).fair i l);
-        last = out_of_bits w4 (f.fair.ensures.0 (g.if-not-fair.false));
-        first = out_of_bits w12 (g.fair-2.ensures.0 (c.if-not-fair-2.false));
-      },
-      λ e. let u = c.all_fair.ensures.1 e in no_rows (At cells) u.i u.inside (λ s. u.never (into_bits (rows u.i u.inside) s)),
-    )
+    let w12 = columns_shown 12 level_12 cells _ _ (rows 12 (omega arith)) g.row_at-2.ensures in record { yes = λ e. record {
+        rows = λ i l. out_of_bits (rows i l) ((c.all_fair.ensures.yes e).fair i l);
+        last = out_of_bits w4 (f.fair.ensures.yes (g.if-not-fair.false));
+        first = out_of_bits w12 (g.fair-2.ensures.yes (c.if-not-fair-2.false));
+      }; no = λ e. let u = c.all_fair.ensures.no e in no_rows (At cells) u.i u.inside (λ s. u.never (into_bits (rows u.i u.inside) s)) }

@@ -6,7 +6,4 @@ use Rattle.face_steps.proofs.spaced.Goals as goal
 
 pub returns : goal.returns
 returns c =
-    let st = c in (
-      λ e. one_end st.args.b st.args.step _ (omega arith) c.ends.ensures st.requires.0 (c.lone.ensures.0 e),
-      λ e. two_ends st.args.b st.args.step _ c.ends.ensures (c.lone.ensures.1 e),
-    )
+    let st = c in record { yes = λ e. one_end st.args.b st.args.step _ (omega arith) c.ends.ensures st.requires.0 (c.lone.ensures.yes e); no = λ e. two_ends st.args.b st.args.step _ c.ends.ensures (c.lone.ensures.no e) }

@@ -24,5 +24,5 @@ returns-else-same c =
     let st = c in
     let r = c.shrunk-t in
     let u = c.grown-whole in
-    mark_none stage _ st.args.m _ refl (λ t ns S h. c.same.ensures.1 c.if-same.false
+    mark_none stage _ st.args.m _ refl (λ t ns S h. c.same.ensures.no c.if-same.false
     (opens st.args.cells (rows16 st.args.cells _ st.well_formed.0) st.args.m r.result r.ensures u.result u.ensures stage ns S h))

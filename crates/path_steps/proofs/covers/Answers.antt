@@ -12,5 +12,5 @@ returns-then-same c = λ e. absurd (true≢false e)
 pub returns : goal.returns
 returns c = λ e d.
     let st = c in
-    c.same-2.ensures.1 e (carried_end (Sum (At st.args.t) (AtMask st.args.m)) _ _ _ _ _ (rows16 st.args.target _ st.well_formed.0)
+    c.same-2.ensures.no e (carried_end (Sum (At st.args.t) (AtMask st.args.m)) _ _ _ _ _ (rows16 st.args.target _ st.well_formed.0)
     c.grown-z.ensures c.carried-y.ensures d)

@@ -32,6 +32,6 @@ returns c =
     let o : get_or h.rest 0 0 / 1 % 2 ≡ 1 = omega arith in
     record {
       few = λ e. omega arith;
-      whole = λ e f. path_whole h.target h.rest h.path c.carried-sum.result h.len known cut f o (c.same.ensures.0 e);
-      part = λ e l f s. c.same.ensures.1 e (path_part h.target h.rest h.path c.carried-sum.result h.len known cut f s);
+      whole = λ e f. path_whole h.target h.rest h.path c.carried-sum.result h.len known cut f o (c.same.ensures.yes e);
+      part = λ e l f s. c.same.ensures.no e (path_part h.target h.rest h.path c.carried-sum.result h.len known cut f s);
     }

@@ -12,4 +12,4 @@ pub returns : goal.returns
 returns c =
     let st = c in
     λ e. replacing _ _ _ _ _ (rows16 st.args.t _ st.well_formed.0) c.if-b-m.false st.requires c.shrunk-other.ensures
-    (c.same.ensures.0 e)
+    (c.same.ensures.yes e)

@@ -30,8 +30,8 @@ returns-then-not-reaches c =
     let nums = st.args.nums.now in
     let known = field16 h.rest _ st.well_formed.0.1.1.1.0 in
     stepped_no nums h st.args.m (λ l permitted r t. step_unmet nums h st.args.m permitted r t known _ c.shrunk-t.ensures
-    c.less-left.result (c.less-left.ensures.0 fit.0)
-    fit.1 (c.reaches.ensures.1 (c.if-not-reaches.true)))
+    c.less-left.result (c.less-left.ensures.after fit.0)
+    fit.1 (c.reaches.ensures.no (c.if-not-reaches.true)))
 
 pub returns-then-not-covers : goal.returns-then-not-covers
 returns-then-not-covers c =
@@ -51,8 +51,8 @@ returns c =
     let long = field_length 32 h.path st.well_formed.0.1.1.1.1.0.1.0.1 in
     let fit = c.fits2.ensures.0
     (c.if-not-fits.false) in
-    let less = c.less-left.ensures.0 fit.0 in
+    let less = c.less-left.ensures.after fit.0 in
     let p = less 16 (omega arith) in
     let q = less 17 (omega arith) in
     stepped_yes nums h st.args.m known _ _ c.shrunk-t.ensures less (omega arith) long
-    (gained _ _ _ _ (omega arith) (omega arith) (c.reaches.ensures.0 (c.if-not-reaches.false)))
+    (gained _ _ _ _ (omega arith) (omega arith) (c.reaches.ensures.yes (c.if-not-reaches.false)))

@@ -15,23 +15,23 @@ use Rattle.plan_grounds.proofs.out_of_range.Goals as goal
 pub returns-then-w-gt15 : goal.returns-then-w-gt15
 returns-then-w-gt15 c =
     let ws = c.args.ws.now in
-    let e = c.extent-w.ensures.0 c.requires.1 in
-    let f = c.extent-h.ensures.0 c.requires.1 in
+    let e = c.extent-w.ensures.of_a_plan c.requires.1 in
+    let f = c.extent-h.ensures.of_a_plan c.requires.1 in
     sym (range_tried ws c.requires.2 ∙ simp (lt-ltb 15 (extent_of false (drop 2 ws)) (omega arith)))
 
 pub returns-then-h-gt15 : goal.returns-then-h-gt15
 returns-then-h-gt15 c =
     let ws = c.args.ws.now in
-    let e = c.extent-w.ensures.0 c.requires.1 in
-    let f = c.extent-h.ensures.0 c.requires.1 in
+    let e = c.extent-w.ensures.of_a_plan c.requires.1 in
+    let f = c.extent-h.ensures.of_a_plan c.requires.1 in
     let w = le-ltb 15 (extent_of false (drop 2 ws)) (omega arith) in
     sym (range_tried ws c.requires.2 ∙ simp (w, lt-ltb 15 (extent_of true (drop 2 ws)) (omega arith)))
 
 pub returns-then-ws-w-gt30 : goal.returns-then-ws-w-gt30
 returns-then-ws-w-gt30 c =
     let ws = c.args.ws.now in
-    let e = c.extent-w.ensures.0 c.requires.1 in
-    let f = c.extent-h.ensures.0 c.requires.1 in
+    let e = c.extent-w.ensures.of_a_plan c.requires.1 in
+    let f = c.extent-h.ensures.of_a_plan c.requires.1 in
     let w = le-ltb 15 (extent_of false (drop 2 ws)) (omega arith) in
     let h = le-ltb 15 (extent_of true (drop 2 ws)) (omega arith) in
     let x = lt-ltb 30 (place_x (get_or ws 1 0) + extent_of false (drop 2 ws)) (omega arith) in
@@ -40,8 +40,8 @@ returns-then-ws-w-gt30 c =
 pub returns : goal.returns
 returns c =
     let ws = c.args.ws.now in
-    let e = c.extent-w.ensures.0 c.requires.1 in
-    let f = c.extent-h.ensures.0 c.requires.1 in
+    let e = c.extent-w.ensures.of_a_plan c.requires.1 in
+    let f = c.extent-h.ensures.of_a_plan c.requires.1 in
     let w = le-ltb 15 (extent_of false (drop 2 ws)) (omega arith) in
     let h = le-ltb 15 (extent_of true (drop 2 ws)) (omega arith) in
     let x = le-ltb 30 (place_x (get_or ws 1 0) + extent_of false (drop 2 ws)) (omega arith) in

@@ -14,7 +14,7 @@ last_is : (c : goal.After-from_15-last) → let ws = c.args.ws.now in
     c.from_15-last.result ≡ from15 (place_y (get_or ws 1 0) + extent_of true (drop 2 ws))
 last_is c =
     let ws = c.args.ws.now in
-    c.from_15-last.ensures ∙ ap (λ n. from15 (place_y (get_or ws 1 0) + n)) c.total.ensures.0
+    c.from_15-last.ensures ∙ ap (λ n. from15 (place_y (get_or ws 1 0) + n)) c.total.ensures.sum
 
 pub returns-then-first-last : goal.returns-then-first-last
 returns-then-first-last c =

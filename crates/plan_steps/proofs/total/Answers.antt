@@ -36,4 +36,4 @@ returns c =
     let h = c.loop-i in
     let st = c.args in
     let z = extent_none st.down st.ws.now h.i c.loop-i-test.false in
-    (omega arith, omega arith)
+    record { sum = omega arith; small = omega arith }

@@ -39,4 +39,4 @@ slice_bounds-planned-end c =
 pub returns : goal.returns
 returns c =
     let e = c in
-    (answers_words _ _ e.if-s.false (omega arith) c.planned.ensures.0, c.planned.ensures.1)
+    (answers_words _ _ e.if-s.false (omega arith) c.planned.ensures.text, c.planned.ensures.1)

@@ -7,10 +7,10 @@ use Rattle.result_steps.specs.Running.{Runnable}
 use Rattle.result_steps.proofs.run.Goals as goal
 
 able : (c : goal.Else-not-runnable) → let a = c.args in Runnable a.plan.now a.w a.h a.first.now a.second.now
-able c = c.runnable.ensures.0 (c.if-not-runnable.false)
+able c = c.runnable.ensures.yes (c.if-not-runnable.false)
 
 pub returns-then-not-runnable : goal.returns-then-not-runnable
-returns-then-not-runnable c = record { through = λ q. absurd (c.runnable.ensures.1 (c.if-not-runnable.true) q); unchanged = λ _. (refl, refl, refl) }
+returns-then-not-runnable c = record { through = λ q. absurd (c.runnable.ensures.no (c.if-not-runnable.true) q); unchanged = λ _. (refl, refl, refl) }
 
 pub stages-n-requires : goal.stages-n-requires
 stages-n-requires c = let q = able c in (q.words, q.room)

@@ -25,20 +25,20 @@ live_rolled : (c : goal.After-reach-y) → let a = (start c).args in
     c.roll.new.0 ≡ rolled (length a.row.now) a.live.now a.row.now
 live_rolled c =
     let a = (start c).args in
-    c.roll.ensures.0
+    c.roll.ensures.arrives
     (live_room a.plan.now a.w a.h a.row.now a.live.now a.kept.now (passed c))
 
 kept_rolled : (c : goal.After-reach-y) → let a = (start c).args in
     c.roll-2.new.0 ≡ rolled (length a.row.now) a.kept.now a.row.now
 kept_rolled c =
     let a = (start c).args in
-    c.roll-2.ensures.0 (kept_room a.plan.now a.w a.h a.row.now a.live.now a.kept.now (passed c))
+    c.roll-2.ensures.arrives (kept_room a.plan.now a.w a.h a.row.now a.live.now a.kept.now (passed c))
 
 -- how far the plan's points reach
 far : (c : goal.After-reach-y) → c.reach-y.result ≡ greatest_y (plan_points (start c).args.plan.now)
 far c =
     let a = (start c).args in
-    reached a.plan.now a.w a.h a.row.now a.live.now a.kept.now (passed c) c.reach-y.result c.reach-y.ensures.0
+    reached a.plan.now a.w a.h a.row.now a.live.now a.kept.now (passed c) c.reach-y.result c.reach-y.ensures.of_a_plan
 
 pub returns-in-Refused : goal.returns-in-Refused
 returns-in-Refused c =

@@ -7,13 +7,10 @@ use Rattle.rolling_steps.proofs.Moving.{rolled_by}
 use Rattle.rolling_steps.proofs.roll.Goals as goal
 
 pub returns-then-d-w : goal.returns-then-d-w
-returns-then-d-w c = (λ h. absurd (omega (arith, h, c.if-d-w.true)), λ _. refl)
+returns-then-d-w c = record { arrives = λ h. absurd (omega (arith, h, c.if-d-w.true)); stays = λ _. refl }
 
 pub returns : goal.returns
 returns c =
     let k = c in
     let a = k.args in
-    let room = k.if-d-w.false in (
-      λ _. rolled_by (length a.row.now) a.row.now a.d.now refl room k.up.ensures c.copy.ensures,
-      λ h. absurd (omega (arith, h, room)),
-    )
+    let room = k.if-d-w.false in record { arrives = λ _. rolled_by (length a.row.now) a.row.now a.d.now refl room k.up.ensures c.copy.ensures; stays = λ h. absurd (omega (arith, h, room)) }

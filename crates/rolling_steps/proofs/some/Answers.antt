@@ -7,7 +7,4 @@ pub returns : goal.returns
 returns c =
     let st = c in
     let a = st.args in
-    let first = c.copy.ensures in (
-      chunk_moved a.p a.n a.w a.d.now a.chunk.now st.requires.0 st.requires.1 first c.copy-2.ensures,
-      chunk_long a.p a.n a.w a.d.now a.chunk.now st.requires.0 st.requires.1 first,
-    )
+    let first = c.copy.ensures in record { moved = chunk_moved a.p a.n a.w a.d.now a.chunk.now st.requires.0 st.requires.1 first c.copy-2.ensures; long = chunk_long a.p a.n a.w a.d.now a.chunk.now st.requires.0 st.requires.1 first }

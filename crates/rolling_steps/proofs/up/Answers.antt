@@ -33,4 +33,4 @@ returns c =
     let at-loop = c in
     let l = at-loop.loop-p in
     let a = at-loop.args in
-    all_moved (length a.d.now - a.w) a.w l.invariant.0 l.invariant.2 c.some-2.ensures.0
+    all_moved (length a.d.now - a.w) a.w l.invariant.0 l.invariant.2 c.some-2.ensures.moved

@@ -14,7 +14,7 @@ returns-then-a-i c =
     let g = c.well_formed in
     let a = c.args.a in
     let b = c.args.b in
-    (λ e. absurd (false≢true e), λ e. rows_differ a b (rows16 a _ g.0) (rows16 b _ g.1.0) c.loop-i.i c.if-a-i.true)
+    record { yes = λ e. absurd (false≢true e); no = λ e. rows_differ a b (rows16 a _ g.0) (rows16 b _ g.1.0) c.loop-i.i c.if-a-i.true }
 
 pub loop-i-preserved : goal.loop-i-preserved
 loop-i-preserved c = (search rules, below_more _ _ c.loop-i.invariant.1 c.if-a-i.false)
@@ -24,4 +24,4 @@ returns c =
     let g = c.well_formed in
     let a = c.args.a in
     let b = c.args.b in
-    (λ e. rows_same a b (rows16 a _ g.0) (rows16 b _ g.1.0) (λ q l. c.loop-i.invariant.1 q (omega arith)), λ e. absurd (true≢false e))
+    record { yes = λ e. rows_same a b (rows16 a _ g.0) (rows16 b _ g.1.0) (λ q l. c.loop-i.invariant.1 q (omega arith)); no = λ e. absurd (true≢false e) }

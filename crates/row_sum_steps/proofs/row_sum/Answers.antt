@@ -23,8 +23,8 @@ loop-i-preserved c =
     let P : List ℕ → Type 0 = RowSum st.args.z st.args.a st.args.b st.args.j (h.loop-i.i + 1) in (
       omega arith,
       ⊎_elim
-          (λ w. subst P (sym w.2) (row_sum_on _ _ _ _ _ _ _ h.loop-i.invariant.1 (c.has.ensures.0 w.0.taken) w.1.ensures))
-          (λ w. subst P (sym w.1) (row_sum_off _ _ _ _ _ _ h.loop-i.invariant.1 (c.has.ensures.1 w.0.left)))
+          (λ w. subst P (sym w.2) (row_sum_on _ _ _ _ _ _ _ h.loop-i.invariant.1 (c.has.ensures.yes w.0.taken) w.1.ensures))
+          (λ w. subst P (sym w.1) (row_sum_off _ _ _ _ _ _ h.loop-i.invariant.1 (c.has.ensures.no w.0.left)))
           c.if-has.branch,
     )
 

@@ -7,10 +7,10 @@ use Rattle.turn_steps.proofs.stages.Goals as goal
 
 able : (c : goal.Else-not-turnable) → let a = c.args in
     Turnable a.plan.now a.w a.h a.first.now a.second.now
-able c = c.turnable.ensures.0 (c.if-not-turnable.false)
+able c = c.turnable.ensures.yes (c.if-not-turnable.false)
 
 pub returns-then-not-turnable : goal.returns-then-not-turnable
-returns-then-not-turnable c = record { through = λ q. absurd (c.turnable.ensures.1 (c.if-not-turnable.true) q); unchanged = λ _. (refl, refl, refl) }
+returns-then-not-turnable c = record { through = λ q. absurd (c.turnable.ensures.no (c.if-not-turnable.true) q); unchanged = λ _. (refl, refl, refl) }
 
 pub stages-requires : goal.stages-requires
 stages-requires c = let q = able c in (q.words, q.room)

@@ -18,7 +18,7 @@ returns-then-ay-gt15 c = made_none _ _ _ (λ G. let h = G.in_y in let t = c.if-a
 
 pub returns-then-empty : goal.returns-then-empty
 returns-then-empty c =
-    made_none _ _ _ (λ G. let s = G.some in (c.empty.ensures.0 c.if-empty.true).no s.x s.y s.cell) c.nothing-then-empty.ensures
+    made_none _ _ _ (λ G. let s = G.some in (c.empty.ensures.yes c.if-empty.true).no s.x s.y s.cell) c.nothing-then-empty.ensures
 
 pub overflow_add-result : goal.overflow_add-result
 overflow_add-result c =
@@ -27,7 +27,7 @@ overflow_add-result c =
     let st = e3 in
     let w = st.args.w in
     let W = field16 w.rows _ st.well_formed.0.1.1.1.1.0 in
-    let some = e3.empty.ensures.1 e3.if-empty.false in
+    let some = e3.empty.ensures.no e3.if-empty.false in
     let I = first_at column (At w.rows) k.first_column-i.result k.first_column-i.ensures some in
     let J = first_at row (At w.rows) k.first_row-j.result k.first_row-j.ensures some in
     let l = least_x w.rows k.first_column-i.result W I in
@@ -40,7 +40,7 @@ overflow_cast-result c =
     let st = e3 in
     let w = st.args.w in
     let W = field16 w.rows _ st.well_formed.0.1.1.1.1.0 in
-    let some = e3.empty.ensures.1 e3.if-empty.false in
+    let some = e3.empty.ensures.no e3.if-empty.false in
     let I = first_at column (At w.rows) k.first_column-i.result k.first_column-i.ensures some in
     let J = first_at row (At w.rows) k.first_row-j.result k.first_row-j.ensures some in
     let l = least_y w.rows k.first_row-j.result W J in
@@ -53,7 +53,7 @@ overflow_add-result-2 c =
     let st = e3 in
     let w = st.args.w in
     let W = field16 w.rows _ st.well_formed.0.1.1.1.1.0 in
-    let some = e3.empty.ensures.1 e3.if-empty.false in
+    let some = e3.empty.ensures.no e3.if-empty.false in
     let I = first_at column (At w.rows) k.first_column-i.result k.first_column-i.ensures some in
     let J = first_at row (At w.rows) k.first_row-j.result k.first_row-j.ensures some in
     let l = least_y w.rows k.first_row-j.result W J in
@@ -66,7 +66,7 @@ returns c =
     let st = e3 in
     let w = st.args.w in
     let W = field16 w.rows _ st.well_formed.0.1.1.1.1.0 in
-    let some = e3.empty.ensures.1 e3.if-empty.false in
+    let some = e3.empty.ensures.no e3.if-empty.false in
     let I = first_at column (At w.rows) k.first_column-i.result k.first_column-i.ensures some in
     let J = first_at row (At w.rows) k.first_row-j.result k.first_row-j.ensures some in
     let G : Anchored w = record { in_x = e3.if-ax-gt15.false; in_y = e3.if-ay-gt15.false; some = some } in

@@ -12,7 +12,7 @@ use Rattle.elements.specs.Standing.{Along}
 use Rattle.elements.proofs.Shape.moved.Goals as goal
 
 pub returns-then-not-sound : goal.returns-then-not-sound
-returns-then-not-sound c = made_none _ _ _ (c.sound.ensures.1 (c.if-not-sound.true)) c.nothing.ensures
+returns-then-not-sound c = made_none _ _ _ (c.sound.ensures.no (c.if-not-sound.true)) c.nothing.ensures
 
 pub returns-then-not-within : goal.returns-then-not-within
 returns-then-not-within c =
@@ -21,12 +21,12 @@ returns-then-not-within c =
     let st = e in
     let s = st.args.self in
     let w = field16 s.rows _ st.well_formed.0.1.1.1.1.1.0 in
-    let S = e.sound.ensures.0 (e.if-not-sound.false) in
+    let S = e.sound.ensures.yes (e.if-not-sound.false) in
     let vx = k.along-x.result in
     let vy = k.along-y.result in
     let X = subst (λ z. Along s.x z vx) (to_z-of_z w32 st.args.dx st.ranges.dx) k.along-x.ensures in
     let Y = subst (λ z. Along s.y z vy) (to_z-of_z w32 st.args.dy st.ranges.dy) k.along-y.ensures in
-    let f = c.within.ensures.1 (c.if-not-within.true) (some S.top) in
+    let f = c.within.ensures.no (c.if-not-within.true) (some S.top) in
     moved_far s w S (st.args.dx, st.args.dy) vx vy X Y c.nothing-then-not-within.result f c.nothing-then-not-within.ensures
 
 pub returns : goal.returns
@@ -36,9 +36,9 @@ returns c =
     let st = e in
     let s = st.args.self in
     let w = field16 s.rows _ st.well_formed.0.1.1.1.1.1.0 in
-    let S = e.sound.ensures.0 (e.if-not-sound.false) in
+    let S = e.sound.ensures.yes (e.if-not-sound.false) in
     let vx = k.along-x.result in
     let vy = k.along-y.result in
     let X = subst (λ z. Along s.x z vx) (to_z-of_z w32 st.args.dx st.ranges.dx) k.along-x.ensures in
     let Y = subst (λ z. Along s.y z vy) (to_z-of_z w32 st.args.dy st.ranges.dy) k.along-y.ensures in
-    moved_near s w S (st.args.dx, st.args.dy) vx vy X Y (c.within.ensures.0 (c.if-not-within.false))
+    moved_near s w S (st.args.dx, st.args.dy) vx vy X Y (c.within.ensures.yes (c.if-not-within.false))

@@ -37,9 +37,6 @@ returns c =
     let s = st.args.self in
     let w = field16 s.rows _ st.well_formed.0.1.1.1.1.1.0 in
     let r = c.first_row in
-    let k = c.first_column in (
-      λ t. is_sound s w (c.if-not-self.false)
+    let k = c.first_column in record { yes = λ t. is_sound s w (c.if-not-self.false)
           (subst (FirstOf row (At s.rows)) c.if-first_row-ne0.false r.ensures)
-          (subst (FirstOf column (At s.rows)) c.if-first_column-ne0.false k.ensures) (c.within.ensures.0 t),
-      λ f S. c.within.ensures.1 f (some S.top) (sound_within s w S),
-    )
+          (subst (FirstOf column (At s.rows)) c.if-first_column-ne0.false k.ensures) (c.within.ensures.yes t); no = λ f S. c.within.ensures.no f (some S.top) (sound_within s w S) }

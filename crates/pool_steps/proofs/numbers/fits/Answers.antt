@@ -6,7 +6,7 @@ use Rattle.completions.proofs.Loops.{upto}
 use Rattle.pool_steps.proofs.numbers.fits.Goals as goal
 
 pub returns-then-m-ge512 : goal.returns-then-m-ge512
-returns-then-m-ge512 c = (λ e. absurd (false≢true e), λ e l f. omega arith)
+returns-then-m-ge512 c = record { yes = λ e. absurd (false≢true e); no = λ e l f. omega arith }
 
 pub loop-i-init : goal.loop-i-init
 loop-i-init c = (omega arith, (λ e k l. absurd (omega arith), λ f. refl))
@@ -28,4 +28,4 @@ loop-i-preserved c =
 pub returns : goal.returns
 returns c =
     let st = c.loop-i in
-    (λ e. (omega arith, record { below = λ k l. st.invariant.1.0 (eqb-true _ 0 e) k (omega arith) }), λ e l f. eqb-false _ 0 e (st.invariant.1.1 f))
+    record { yes = λ e. (omega arith, record { below = λ k l. st.invariant.1.0 (eqb-true _ 0 e) k (omega arith) }); no = λ e l f. eqb-false _ 0 e (st.invariant.1.1 f) }

@@ -4,7 +4,7 @@ use Rattle.completions.proofs.Loops.{upto}
 use Rattle.pool_steps.proofs.numbers.less.Goals as goal
 
 pub returns-then-m-ge512 : goal.returns-then-m-ge512
-returns-then-m-ge512 c = (λ l. absurd (omega arith), λ l. refl)
+returns-then-m-ge512 c = record { after = λ l. absurd (omega arith); outside = λ l. refl }
 
 pub loop-i-init : goal.loop-i-init
 loop-i-init c = (omega arith, (c.well_formed.0.1.0.1, (λ k l. absurd (omega arith), λ k l. refl)))
@@ -29,4 +29,4 @@ loop-i-preserved c =
     )
 
 pub returns : goal.returns
-returns c = (λ b k l. c.loop-i.invariant.1.1.0 k (omega arith), λ b. absurd (omega arith))
+returns c = record { after = λ b k l. c.loop-i.invariant.1.1.0 k (omega arith); outside = λ b. absurd (omega arith) }

@@ -4,10 +4,10 @@ use mathlib.Core.Bool.{false≢true}
 use Rattle.pool_steps.proofs.pools.better.Goals as goal
 
 pub returns-then-need-eq0 : goal.returns-then-need-eq0
-returns-then-need-eq0 c = (λ e. absurd (false≢true e), λ e f. c.if-need-eq0.true)
+returns-then-need-eq0 c = record { yes = λ e. absurd (false≢true e); no = λ e f. c.if-need-eq0.true }
 
 pub returns-then-first : goal.returns-then-first
-returns-then-first c = (λ e. omega arith, λ e. absurd (true≢false e))
+returns-then-first c = record { yes = λ e. omega arith; no = λ e. absurd (true≢false e) }
 
 pub returns : goal.returns
-returns c = (λ e. omega arith, λ e f. absurd (true≢false (sym f ∙ c.if-first.false)))
+returns c = record { yes = λ e. omega arith; no = λ e f. absurd (true≢false (sym f ∙ c.if-first.false)) }

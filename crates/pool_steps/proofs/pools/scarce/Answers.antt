@@ -10,12 +10,12 @@ loop-i-preserved c =
       omega arith,
       ⊎_elim
           (λ w. subst (λ (b : ℕ). (b ≤ 18) × ((b < 18 → 0 < get_or n b 0) × (b ≡ 18 → (k : ℕ) → k < i + 1 → get_or n k 0 ≡ 0))) (sym w.1)
-          (omega arith, (λ q. c.better.ensures.0 w.0.taken, λ e. absurd (omega arith))))
+          (omega arith, (λ q. c.better.ensures.yes w.0.taken, λ e. absurd (omega arith))))
           (λ w. subst (λ (b : ℕ). (b ≤ 18) × ((b < 18 → 0 < get_or n b 0) × (b ≡ 18 → (k : ℕ) → k < i + 1 → get_or n k 0 ≡ 0))) (sym w.1) (
             st.loop-i.invariant.1.0,
             (
               st.loop-i.invariant.1.1.0,
-              λ e. upto (λ k. get_or n k 0 ≡ 0) i (st.loop-i.invariant.1.1.1 e) (c.better.ensures.1 w.0.left (eq-eqb _ 18 e)),
+              λ e. upto (λ k. get_or n k 0 ≡ 0) i (st.loop-i.invariant.1.1.1 e) (c.better.ensures.no w.0.left (eq-eqb _ 18 e)),
             ),
           ))
           c.if-better.branch,
