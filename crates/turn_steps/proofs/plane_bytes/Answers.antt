@@ -1,11 +1,9 @@
 -- Sides that pass are small, so no sum or product is too great.
 use native.Mathlib.Omega.{arith}
-use borrow.Author.Rules.{rules}
-use mathlib.Core.Path.{◌≡◌, sym, ◌∙◌, ap}
-use mathlib.Core.Bool.{false, cond}
-use Prim.Native.Nat.{◌+◌, ◌*◌, ◌/◌, ◌≤◌}
+use mathlib.Core.Path.{sym, ◌∙◌, ap}
+use mathlib.Core.Bool.{cond}
+use Prim.Native.Nat.{ℕ, ◌+◌, ◌*◌, ◌/◌, ◌≤◌}
 use native.Mathlib.Nat.{mul-le-mul}
-use Rattle.grids.specs.Frame.{bad_size}
 use Rattle.planes.specs.Planes.{plane_size}
 use Rattle.frame_grounds.proofs.Sides.{sides}
 use Rattle.turn_steps.proofs.plane_bytes.Goals as goal

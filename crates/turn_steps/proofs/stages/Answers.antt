@@ -1,5 +1,4 @@
 -- What has no room is left as it is; else its stages.
-use borrow.Author.Rules.{rules}
 use mathlib.Core.Path.{refl}
 use Rattle.turn_steps.proofs.stages.Goals as goal
 

@@ -1,6 +1,5 @@
 -- One test after the other: where one fails, nothing can be run; where none does, all that it asks for is there.
 use native.Mathlib.Omega.{arith}
-use borrow.Author.Rules.{rules}
 use mathlib.Core.Path.{◌≡◌, sym, ◌∙◌, ap, subst}
 use mathlib.Core.Bool.{Bool, false, cond}
 use Prim.Native.Nat.{ℕ, ◌+◌}
