@@ -1,5 +1,4 @@
 -- Each ground in turn, one test more; cells are looked at where all before them pass.
-use borrow.Author.Rules.{rules}
 use mathlib.Core.Path.{◌≡◌, refl}
 use mathlib.Core.Bool.{Bool, false, ◌||◌}
 use Prim.Native.Nat.{ℕ}
@@ -38,7 +37,7 @@ returns-in-Refused c =
     let a = c.args in
     let ts = arrival_tests a.plan.now a.w a.h a.row.now a.live.now a.kept.now in
     let ten = first_ten a.plan.now a.w a.h a.row.now a.live.now a.kept.now _ _ _ _ _ _
-        c.plan_refusal-tested.ensures c.bad_size.ensures c.tried-size.ensures c.wrong_lengths.ensures c.tried-length.ensures c.tried-arriving.ensures in
+    c.plan_refusal-tested.ensures c.bad_size.ensures c.tried-size.ensures c.wrong_lengths.ensures c.tried-length.ensures c.tried-arriving.ensures in
     refused_more (take 10 ts) c.tried-arriving.result _ ten c.in-Refused.is (drop 10 ts)
 
 pub returns : goal.returns
@@ -47,5 +46,5 @@ returns c =
     let a = c.args in
     let ts = arrival_tests a.plan.now a.w a.h a.row.now a.live.now a.kept.now in
     let ten = first_ten a.plan.now a.w a.h a.row.now a.live.now a.kept.now _ _ _ _ _ _
-        c.plan_refusal-tested.ensures c.bad_size.ensures c.tried-size.ensures c.wrong_lengths.ensures c.tried-length.ensures c.tried-arriving.ensures in
+    c.plan_refusal-tested.ensures c.bad_size.ensures c.tried-size.ensures c.wrong_lengths.ensures c.tried-length.ensures c.tried-arriving.ensures in
     tried_more c.tried.ensures (take 10 ts) _ tt ten (λ _. c.bad_cells.ensures)

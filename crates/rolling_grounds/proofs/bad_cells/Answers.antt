@@ -1,7 +1,6 @@
 -- All of each is looked at: the live frame, then the kept one, then the row.
-use borrow.Author.Rules.{rules}
 use mathlib.Core.Path.{◌≡◌, sym, ◌∙◌, ap}
-use mathlib.Core.Bool.{Bool, true, false, ◌||◌}
+use mathlib.Core.Bool.{Bool, ◌||◌}
 use Rattle.plane.proofs.Tests.{or_first, or_rest}
 use mathlib.Core.List.{List}
 use Prim.Native.Nat.{ℕ}
