@@ -37,8 +37,8 @@ node-loop-i-preserved t c =
       omega arith,
       passed_more (tries a.marks.now) _ _ a.k a.m (omega arith) l.i l.invariant.1
           (elim c.if-marks-i-eq1.branch [
-          | node-then-marks-i-eq1+else-p w ↦ λ _. w.stage-p.ensures.no w.if-p.false
-          | node-else-marks-i-eq1 w ↦ λ e. absurd (w.if-marks-i-eq1.false (eqb→eq (get_or a.marks.now l.i 0) 1 e))
+            | node-then-marks-i-eq1+else-p w ↦ λ _. w.stage-p.ensures.no w.if-p.false
+            | node-else-marks-i-eq1 w ↦ λ e. absurd (w.if-marks-i-eq1.false (eqb→eq (get_or a.marks.now l.i 0) 1 e))
           ]),
     )
 

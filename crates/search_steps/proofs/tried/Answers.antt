@@ -2,7 +2,6 @@
 use borrow.Author.Tests.{ltb-true, not-false}
 use mathlib.Core.Path.{sym, ◌∙◌}
 use Rattle.search.proofs.Trying.{led, led_few}
-use borrow.Author.Rules.{rules}
 use Rattle.search_steps.proofs.tried.Goals as goal
 
 pub returns-then-not-c : goal.returns-then-not-c
