@@ -3,9 +3,8 @@
 use mathlib.Core.Path.{◌≡◌, refl, ◌∙◌, ap}
 use mathlib.Core.Bool.{Bool, true, false, cond}
 use mathlib.Core.List.{List, [], ◌∷◌, map}
-use Prim.Native.Nat.{ℕ, zero, suc, ◌+◌, ◌-◌, ◌/◌, ◌%◌, ◌≤◌, min, max}
+use Prim.Native.Nat.{ℕ, zero, suc, ◌-◌, ◌≤◌, min, max}
 use native.Mathlib.Omega.{arith}
-use lib.Dec.{eqb}
 use borrow.Author.Tests.{ne_eqb}
 use Rattle.plane.specs.Point.{Point, ◌+ᵖ◌, ◌-ᵖ◌}
 use Rattle.grids.specs.Frame.{pick_of, seed_of, over}

@@ -1,5 +1,4 @@
 -- Above and below the source all cells are filled; else the row is that of the source at its height.
-use borrow.Author.Rules.{rules}
 use native.Mathlib.Omega.{arith}
 use mathlib.Core.Path.{◌≡◌, sym, ap, ◌∙◌}
 use Prim.Native.Nat.{ℕ, ◌+◌, ◌-◌, ◌*◌}
@@ -22,21 +21,6 @@ returns-then-rows-t c =
     let a = c.args in
     ranged_ap c.fill-then-rows-t.ensures
     (λ k lo hi. sym (seen_under a.outside a.columns a.rows a.src.now (k + a.a) a.t (omega arith) (omega arith)))
-
-pub overflow_mul-q : goal.overflow_mul-q
-overflow_mul-q c =
-    let a = c.args in
-    omega (arith, rows_apart a.columns (a.t - 15) a.rows (omega arith), mul_comm a.columns a.rows)
-
-pub overflow_add-q : goal.overflow_add-q
-overflow_add-q c =
-    let a = c.args in
-    omega (arith, rows_apart a.columns (a.t - 15) a.rows (omega arith), mul_comm a.columns a.rows)
-
-pub slice_bounds-line-end : goal.slice_bounds-line-end
-slice_bounds-line-end c =
-    let a = c.args in
-    omega (arith, rows_apart a.columns (a.t - 15) a.rows (omega arith), mul_comm a.columns a.rows)
 
 pub returns : goal.returns
 returns c =

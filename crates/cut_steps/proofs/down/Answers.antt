@@ -1,5 +1,4 @@
 -- The rows as far as the source goes, and below it the value outside.
-use borrow.Author.Rules.{rules}
 use native.Mathlib.Omega.{arith}
 use mathlib.Core.Path.{refl}
 use Prim.Native.Nat.{◌+◌, ◌*◌}
@@ -7,32 +6,6 @@ use native.Mathlib.Nat.{mul_comm, mul-le-mul_right}
 use Rattle.ranges.proofs.Ranges.{ranged_part}
 use Rattle.cuts.proofs.CutRows.{edge_after, seen_under, laid_rest, cut_is}
 use Rattle.cut_steps.proofs.down.Goals as goal
-
-pub upper-requires : goal.upper-requires
-upper-requires c =
-    let a = c.args in
-    let n = c.edge-n in
-    let l = n.ensures.all in
-    omega (arith, mul-le-mul_right {m = n.result} {n = a.h} a.w l, mul_comm a.w a.h, mul_comm a.w n.result)
-
-pub overflow_mul-n : goal.overflow_mul-n
-overflow_mul-n c =
-    let a = c.args in
-    let n = c.edge-n in
-    let l = n.ensures.all in
-    omega (arith, mul-le-mul_right {m = n.result} {n = a.h} a.w l, mul_comm a.w a.h)
-
-pub slice_bounds-fill-count : goal.slice_bounds-fill-count
-slice_bounds-fill-count c =
-    let a = c.args in
-    let n = c.edge-n in
-    mul-le-mul_right {m = n.result} {n = a.h} a.w n.ensures.all
-
-pub slice_bounds-fill-start : goal.slice_bounds-fill-start
-slice_bounds-fill-start c =
-    let a = c.args in
-    let n = c.edge-n in
-    mul-le-mul_right {m = n.result} {n = a.h} a.w n.ensures.all
 
 pub returns : goal.returns
 returns c =

@@ -1,33 +1,10 @@
-use borrow.Author.Rules.{rules}
 use native.Mathlib.Omega.{arith}
-use mathlib.Core.Path.{◌≡◌}
-use Prim.Native.Nat.{◌+◌, ◌-◌, ◌*◌, ◌≤◌}
+use Prim.Native.Nat.{◌+◌}
 use native.Mathlib.Nat.{add-mul, mul_comm}
-use Rattle.ranges.specs.Ranges.{Laid}
 use Rattle.ranges.proofs.Ranges.{ranged_part}
 use Rattle.ranges.proofs.FlatRows.{rows_apart}
-use Rattle.cuts.specs.Cuts.{seen}
-use Rattle.cuts.proofs.CutRows.{laid_none, laid_more}
+use Rattle.cuts.proofs.CutRows.{laid_more}
 use Rattle.cut_steps.proofs.upper.Goals as goal
-
-pub loop-y-init : goal.loop-y-init
-loop-y-init c = (omega arith, omega arith, laid_none _)
-
-pub overflow_add-p : goal.overflow_add-p
-overflow_add-p c =
-    let a = c.args in
-    let l = c.loop-y in omega (arith, rows_apart a.w l.y a.h (omega arith), mul_comm a.w a.h, l.invariant.2.len)
-
-pub slice_bounds-across-end : goal.slice_bounds-across-end
-slice_bounds-across-end c =
-    let a = c.args in
-    let l = c.loop-y in omega (arith, rows_apart a.w l.y a.h (omega arith), mul_comm a.w a.h, l.invariant.2.len)
-
-pub overflow_add-p-in-loop-y : goal.overflow_add-p-in-loop-y
-overflow_add-p-in-loop-y c =
-    let a = c.args in
-    let l = c.loop-y in
-    omega (arith, rows_apart a.w l.y a.h (omega arith), mul_comm a.w a.h, l.invariant.2.len)
 
 pub loop-y-preserved : goal.loop-y-preserved
 loop-y-preserved c =
@@ -37,9 +14,3 @@ loop-y-preserved c =
     let r = ranged_part {a = l.p} {e = l.p + a.w} {xs = l.dst} (omega arith) (omega (arith, room, mul_comm a.w a.h, l.invariant.2.len))
     c.across.ensures in
     (omega arith, omega (arith, add-mul l.y 1 a.w), laid_more l.invariant.1 l.invariant.2 r)
-
-pub returns : goal.returns
-returns c =
-    let a = c.args in
-    let e : c.loop-y.y ≡ a.h = omega arith in
-    rw e at c.loop-y.invariant.2

@@ -1,13 +1,8 @@
 -- The rows below j are put in; the measure is what is left of them.
-use borrow.Author.Rules.{rules}
-use native.Mathlib.Omega.{arith}
-use mathlib.Core.Path.{◌≡◌}
-use Prim.Native.Nat.{◌+◌, ◌*◌, ◌-◌, ◌≤◌}
+use Prim.Native.Nat.{◌-◌, ◌≤◌}
 use lib.ListN.{length}
-use borrow.Rule.Slice.PartMut.{mid_len}
-use Rattle.ranges.proofs.FlatRows.{rows_apart}
 use Rattle.planes.specs.Bytes.{Bitted}
-use Rattle.plane_group_steps.proofs.Grouping.{few_bit, few_none, few_more, few_all}
+use Rattle.plane_group_steps.proofs.Grouping.{few_bit}
 use Rattle.plane_group_steps.proofs.few.Given as goal
 
 abbrev pub invariant-loop-j : goal.invariant-loop-j

@@ -1,6 +1,5 @@
 -- Bit by bit.
 use native.Mathlib.Omega.{arith}
-use borrow.Author.Rules.{rules}
 use Rattle.plane_group_steps.proofs.PackBits.{laid_bit_lem}
 use Rattle.plane_group_steps.proofs.laid.Goals as goal
 

@@ -1,11 +1,7 @@
 -- Each byte passed has its cell; those to come are as they were. The measure is what is left of the run.
-use borrow.Author.Rules.{rules}
-use native.Mathlib.Omega.{arith}
-use mathlib.Core.Path.{◌≡◌, ap, ◌∙◌}
-use Prim.Native.Nat.{ℕ, ◌-◌, ◌≤◌}
+use Prim.Native.Nat.{◌-◌, ◌≤◌}
 use lib.ListN.{length, get_or}
 use Rattle.planes.specs.Bytes.{Bitted}
-use Rattle.planes.proofs.Bitting.{bitted_none, bitted_more}
 use Rattle.plane_group_steps.specs.Groups.{laid_bit}
 use Rattle.plane_group_steps.proofs.lay.Given as goal
 

@@ -1,9 +1,6 @@
 -- The rows below y are packed, the others have the value outside; the measure is what is left of the frame's rows.
-use borrow.Author.Rules.{rules}
-use mathlib.Core.Path.{refl}
 use Prim.Native.Nat.{◌-◌}
-use Rattle.plane_pack_steps.proofs.PackRows.{group_fits_lem, Filling, first_small, filling_first, filling_more, filling_all}
-use native.Mathlib.Omega.{arith}
+use Rattle.plane_pack_steps.proofs.PackRows.{Filling}
 use Rattle.plane_pack_steps.proofs.grouped.Given as goal
 
 abbrev pub invariant-loop-y : goal.invariant-loop-y

@@ -1,19 +1,9 @@
 -- A part of the bytes, into which a part of the cells is put.
 use native.Mathlib.Omega.{arith}
-use borrow.Author.Rules.{rules}
 use mathlib.Core.Path.{ap}
 use Prim.Native.Nat.{ℕ, ◌*◌}
 use Rattle.plane_pack_steps.proofs.GroupParts.{group_put}
 use Rattle.plane_pack_steps.proofs.next.Goals as goal
-
-pub overflow_mul-r : goal.overflow_mul-r
-overflow_mul-r c = let a = c.args in omega (arith, ap (λ (i : ℕ). i * a.w) c.rows-r.ensures)
-
-pub overflow_add-q : goal.overflow_add-q
-overflow_add-q c = let a = c.args in omega (arith, ap (λ (i : ℕ). i * a.w) c.rows-r.ensures)
-
-pub slice_bounds-group-end-2 : goal.slice_bounds-group-end-2
-slice_bounds-group-end-2 c = let a = c.args in omega (arith, ap (λ (i : ℕ). i * a.w) c.rows-r.ensures)
 
 pub returns : goal.returns
 returns c =

@@ -1,5 +1,4 @@
 -- Row after row of the mask, by the kind of the stage.
-use borrow.Author.Rules.{rules}
 use Rattle.plane_row_steps.proofs.Readings.{rowed_back, rowed_ahead}
 use Rattle.plane_row_steps.proofs.all.Goals as goal
 

@@ -1,6 +1,5 @@
 -- The passes, and then the bounds.
 use native.Mathlib.Omega.{arith}
-use borrow.Author.Rules.{rules}
 use Prim.Native.Nat.{◌+◌, ◌-◌, ◌*◌}
 use native.Mathlib.Nat.{add-mul}
 use lib.ListN.{length}

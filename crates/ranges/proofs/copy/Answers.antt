@@ -1,9 +1,7 @@
 use mathlib.Core.Path.{◌≡◌, refl}
-use Prim.Native.Nat.{◌≤◌, ◌-◌, min}
+use Prim.Native.Nat.{min}
 use native.Mathlib.Omega.{arith}
-use lib.ListN.{length, get_or}
-use borrow.Author.Rules.{rules}
-use Rattle.ranges.specs.Ranges.{Ranged}
+use lib.ListN.{length}
 use Rattle.ranges.proofs.Ranges.{ranged_none, ranged_more}
 use Rattle.ranges.proofs.copy.Goals as goal
 

@@ -1,11 +1,7 @@
 -- Each cell passed has the value; the measure is what is left of the part.
-use mathlib.Core.Path.{◌≡◌, refl}
 use Prim.Native.Nat.{◌≤◌, ◌-◌}
-use native.Mathlib.Omega.{arith}
 use lib.ListN.{length}
-use borrow.Author.Rules.{rules}
 use Rattle.ranges.specs.Ranges.{Ranged}
-use Rattle.ranges.proofs.Ranges.{ranged_none, ranged_more}
 use Rattle.ranges.proofs.fill.Given as goal
 
 abbrev pub invariant-loop-k : goal.invariant-loop-k

@@ -1,13 +1,8 @@
 -- Each byte passed has eight cells of its column; the measure is what is left of the run.
-use mathlib.Core.Path.{◌≡◌}
 use Prim.Native.Nat.{◌-◌, ◌≤◌}
 use lib.ListN.{length}
 use Rattle.planes.specs.Bytes.{Bitted}
 use Rattle.plane_eight_steps.specs.Eights.{eight_bit}
-use Rattle.plane_eight_steps.proofs.EightBits.{eight_bits}
-use Rattle.planes.proofs.Bitting.{bitted_none, bitted_more}
-use borrow.Author.Rules.{rules}
-use native.Mathlib.Omega.{arith}
 use Rattle.plane_eight_steps.proofs.columns.eights.Given as goal
 
 abbrev pub invariant-loop-k : goal.invariant-loop-k

@@ -3,7 +3,7 @@ use Rattle.plane_pass_steps.proofs.ByteBits.{both_bit}
 use Rattle.plane_pass_steps.proofs.bytes.both.Goals as goal
 
 pub returns-then-erode : goal.returns-then-erode
-returns-then-erode c q = let a = c.before.args in rw c.if-erode.true (both_bit a.a a.b q).0
+returns-then-erode c q = let a = c.args in rw c.if-erode.true (both_bit a.a a.b q).0
 
 pub returns : goal.returns
-returns c q = let a = c.before.args in rw c.if-erode.false (both_bit a.a a.b q).1
+returns c q = let a = c.args in rw c.if-erode.false (both_bit a.a a.b q).1

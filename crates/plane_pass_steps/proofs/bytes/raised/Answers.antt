@@ -1,7 +1,6 @@
 -- Each bit comes from the one byte or from the other.
 use Rattle.plane_pass_steps.proofs.ByteBits.{raised_bit}
 use native.Mathlib.Omega.{arith}
-use borrow.Author.Rules.{rules}
 use Rattle.plane_pass_steps.proofs.bytes.raised.Goals as goal
 
 pub returns : goal.returns

@@ -1,18 +1,12 @@
-use mathlib.Core.Path.{◌≡◌, ap, ◌∙◌}
-use Prim.Native.Nat.{ℕ, ◌+◌, ◌-◌, ◌≤◌}
-use lib.ListN.{length, get_or}
+use mathlib.Core.Path.{ap, ◌∙◌}
+use Prim.Native.Nat.{ℕ, ◌+◌}
+use lib.ListN.{get_or}
 use Rattle.rows.specs.Cells.{bit}
 use Rattle.planes.specs.Bits.{bit_pick}
-use Rattle.planes.specs.Bytes.{Bitted}
-use Rattle.plane_pass_steps.specs.Passes.{joined_bit}
 use Rattle.plane_pass_steps.proofs.ByteBits.{spanned_three}
-use Rattle.planes.proofs.Bitting.{bitted_none, bitted_more}
-use borrow.Author.Rules.{rules}
+use Rattle.planes.proofs.Bitting.{bitted_more}
 use native.Mathlib.Omega.{arith}
 use Rattle.plane_pass_steps.proofs.passes.join.Goals as goal
-
-pub loop-k-init : goal.loop-k-init
-loop-k-init c = (omega arith, bitted_none _ _)
 
 pub loop-k-preserved : goal.loop-k-preserved
 loop-k-preserved c =
@@ -31,8 +25,3 @@ loop-k-preserved c =
           (get_or s (l.k + a.z + a.c) 0) (get_or s (l.k + a.x) 0) (get_or s (l.k + a.y) 0) (get_or s (l.k + a.z) 0) a.t q high.ensures
           low.ensures)),
     )
-
-pub returns : goal.returns
-returns c =
-    let e : c.loop-k.k ≡ length c.args.d.now = omega arith in
-    rw e at c.loop-k.invariant.1

@@ -1,15 +1,8 @@
 -- Each byte passed is joined with the pick of three; those to come are as they were. The measure is what is left of the run.
-use mathlib.Core.Path.{◌≡◌, ap, ◌∙◌}
-use Prim.Native.Nat.{ℕ, ◌+◌, ◌-◌, ◌≤◌}
-use lib.ListN.{length, get_or}
-use Rattle.rows.specs.Cells.{bit}
-use Rattle.planes.specs.Bits.{bit_pick}
+use Prim.Native.Nat.{◌-◌, ◌≤◌}
+use lib.ListN.{length}
 use Rattle.planes.specs.Bytes.{Bitted}
 use Rattle.plane_pass_steps.specs.Passes.{joined_bit}
-use Rattle.plane_pass_steps.proofs.ByteBits.{spanned_three}
-use Rattle.planes.proofs.Bitting.{bitted_none, bitted_more}
-use borrow.Author.Rules.{rules}
-use native.Mathlib.Omega.{arith}
 use Rattle.plane_pass_steps.proofs.passes.join.Given as goal
 
 abbrev pub invariant-loop-k : goal.invariant-loop-k

@@ -1,12 +1,8 @@
 -- Each byte passed is the pick of three; the measure is what is left of the run.
-use mathlib.Core.Path.{◌≡◌}
 use Prim.Native.Nat.{◌-◌, ◌≤◌}
 use lib.ListN.{length}
-use Rattle.planes.proofs.Bitting.{bitted_none, bitted_more}
 use Rattle.planes.specs.Bytes.{Bitted}
 use Rattle.plane_pass_steps.specs.Passes.{level_bit}
-use borrow.Author.Rules.{rules}
-use native.Mathlib.Omega.{arith}
 use Rattle.plane_pass_steps.proofs.passes.level.Given as goal
 
 abbrev pub invariant-loop-k : goal.invariant-loop-k

@@ -1,7 +1,6 @@
 -- Each bit is kept by the one mask or by the other.
 use Rattle.plane_stage_steps.proofs.TrimBits.{trimmed_bit_lem}
 use native.Mathlib.Omega.{arith}
-use borrow.Author.Rules.{rules}
 use Rattle.plane_stage_steps.proofs.bounds.trimmed.Goals as goal
 
 pub returns : goal.returns

@@ -2,19 +2,15 @@
 use mathlib.Core.Path.{◌≡◌, refl, sym, ap, ◌∙◌}
 use Prim.Native.Nat.{ℕ, ◌+◌, ◌*◌, ◌/◌, ◌%◌, ◌-◌}
 use lib.ListN.{length}
-use lib.Dec.{eqb}
-use borrow.Author.Tests.{eqb-true, not-false}
 use borrow.Rule.Slice.PartMut.{mid_of, mid_len}
 use Rattle.ranges.proofs.Ranges.{ranged_ap}
 use Rattle.cuts.specs.Cuts.{shifted}
 use Rattle.cuts.proofs.CutRows.{seen_above, seen_under, seen_line}
 use Rattle.planes.specs.Planes.{plane_cells}
 use Rattle.planes.proofs.OnGrids.{held_size}
-use Rattle.planes.proofs.Sizing.{size_small}
-use Rattle.plane_unpack_steps.proofs.HeldRows.{row_fits, held_rows, held_pair}
+use Rattle.plane_unpack_steps.proofs.HeldRows.{row_fits, held_pair}
 use Rattle.plane_unpack_steps.specs.Pairs.{pair_bit}
 use native.Mathlib.Omega.{arith}
-use borrow.Author.Rules.{rules}
 use Rattle.plane_unpack_steps.proofs.lines.across.Goals as goal
 
 pub returns-then-t-lt15 : goal.returns-then-t-lt15
@@ -32,54 +28,6 @@ returns-then-gh-t c =
     (λ k lo hi. sym
     (seen_under a.outside a.gw a.gh (plane_cells a.o a.gw a.gh a.src.now) (k + a.a) a.t (omega arith)
     c.if-gh-t.true))
-
-pub overflow_mul-q : goal.overflow_mul-q
-overflow_mul-q c =
-    let a = c.args in
-    omega (arith, row_fits a.gw a.gh (a.t - 15) (omega arith), size_small a.gw a.gh (omega arith) (omega arith))
-
-pub overflow_add-q-3 : goal.overflow_add-q-3
-overflow_add-q-3 c =
-    let a = c.args in
-    omega (arith, row_fits a.gw a.gh (a.t - 15) (omega arith), size_small a.gw a.gh (omega arith) (omega arith))
-
-pub overflow_add-r : goal.overflow_add-r
-overflow_add-r c =
-    let a = c.args in
-    omega (arith, row_fits a.gw a.gh (a.t - 15) (omega arith), size_small a.gw a.gh (omega arith) (omega arith))
-
-pub overflow_add-q-4 : goal.overflow_add-q-4
-overflow_add-q-4 c =
-    let a = c.args in
-    omega (arith, row_fits a.gw a.gh (a.t - 15) (omega arith), size_small a.gw a.gh (omega arith) (omega arith))
-
-pub slice_bounds-line-end : goal.slice_bounds-line-end
-slice_bounds-line-end c =
-    let a = c.args in
-    omega (arith, row_fits a.gw a.gh (a.t - 15) (omega arith), size_small a.gw a.gh (omega arith) (omega arith))
-
-pub overflow_add-r-2 : goal.overflow_add-r-2
-overflow_add-r-2 c =
-    let a = c.args in
-    omega (arith, row_fits a.gw a.gh (a.t - 15) (omega arith), size_small a.gw a.gh (omega arith) (omega arith))
-
-pub slice_bounds-line-end-2 : goal.slice_bounds-line-end-2
-slice_bounds-line-end-2 c =
-    let a = c.args in
-    omega (arith, row_fits a.gw a.gh (a.t - 15) (omega arith), size_small a.gw a.gh (omega arith) (omega arith))
-
-pub line-requires : goal.line-requires
-line-requires c =
-    let st = c in
-    let a = st.args in
-    let y = a.t - 15 in
-    let q = (y / 8 + 1) * (a.gw + 2) + 2 in
-    let n = mid_len q (q + a.gw) a.src.now (omega (arith, row_fits a.gw a.gh y (omega arith))) in (
-      omega (arith, n),
-      st.pre.3,
-      held_rows a.o a.gw a.gh a.src.now q y st.pre.0 refl (omega arith)
-          (λ u. eqb-true a.o 0 (not-false (eqb a.o 0) u)),
-    )
 
 pub returns : goal.returns
 returns c =

@@ -1,16 +1,12 @@
 -- Each byte passed is the bit; the measure is what is left of the run.
-use mathlib.Core.Path.{◌≡◌}
 use Prim.Native.Nat.{◌-◌, ◌≤◌}
 use lib.ListN.{length, get_or}
 use Rattle.rows.specs.Cells.{bit}
 use Rattle.ranges.specs.Ranges.{Ranged}
-use Rattle.ranges.proofs.Ranges.{ranged_none, ranged_more}
-use borrow.Author.Rules.{rules}
-use native.Mathlib.Omega.{arith}
 use Rattle.plane_unpack_steps.proofs.lines.cells.Given as goal
 
 abbrev pub invariant-loop-k : goal.invariant-loop-k
-invariant-loop-k l = (l.k ≤ length l.initial.d) × Ranged 0 0 l.k (λ l.k. bit (get_or l.s l.k 0) l.j) l.initial.d l.d
+invariant-loop-k l = (l.k ≤ length l.initial.d) × Ranged 0 0 l.k (λ k. bit (get_or l.s k 0) l.j) l.initial.d l.d
 
 abbrev pub decreases-loop-k : goal.decreases-loop-k
 decreases-loop-k l = length l.initial.d - l.k

@@ -1,34 +1,12 @@
 use mathlib.Core.Path.{◌≡◌}
-use Prim.Native.Nat.{◌+◌, ◌*◌, ◌-◌, ◌≤◌}
+use Prim.Native.Nat.{◌+◌}
 use native.Mathlib.Nat.{add-mul, mul_comm}
-use Rattle.ranges.specs.Ranges.{Laid}
 use Rattle.ranges.proofs.FlatRows.{rows_apart}
 use Rattle.ranges.proofs.Ranges.{ranged_part}
-use Rattle.cuts.specs.Cuts.{seen}
-use Rattle.cuts.proofs.CutRows.{laid_none, laid_more, cut_is}
+use Rattle.cuts.proofs.CutRows.{laid_more, cut_is}
 use Rattle.planes.specs.Planes.{plane_cells}
-use borrow.Author.Rules.{rules}
 use native.Mathlib.Omega.{arith}
 use Rattle.plane_unpack_steps.proofs.lines.down.Goals as goal
-
-pub loop-y-init : goal.loop-y-init
-loop-y-init c = (omega arith, omega arith, laid_none _)
-
-pub overflow_add-p : goal.overflow_add-p
-overflow_add-p c =
-    let a = c.args in
-    let l = c.loop-y in omega (arith, rows_apart a.w l.y a.h (omega arith), mul_comm a.w a.h, l.invariant.2.len)
-
-pub slice_bounds-across-end : goal.slice_bounds-across-end
-slice_bounds-across-end c =
-    let a = c.args in
-    let l = c.loop-y in omega (arith, rows_apart a.w l.y a.h (omega arith), mul_comm a.w a.h, l.invariant.2.len)
-
-pub overflow_add-p-in-loop-y : goal.overflow_add-p-in-loop-y
-overflow_add-p-in-loop-y c =
-    let a = c.args in
-    let l = c.loop-y in
-    omega (arith, rows_apart a.w l.y a.h (omega arith), mul_comm a.w a.h, l.invariant.2.len)
 
 pub loop-y-preserved : goal.loop-y-preserved
 loop-y-preserved c =

@@ -1,15 +1,9 @@
 -- The rows passed are laid; the measure is what is left of them.
 use mathlib.Core.Path.{◌≡◌}
 use Prim.Native.Nat.{◌+◌, ◌*◌, ◌-◌, ◌≤◌}
-use native.Mathlib.Nat.{add-mul, mul_comm}
 use Rattle.ranges.specs.Ranges.{Laid}
-use Rattle.ranges.proofs.FlatRows.{rows_apart}
-use Rattle.ranges.proofs.Ranges.{ranged_part}
 use Rattle.cuts.specs.Cuts.{seen}
-use Rattle.cuts.proofs.CutRows.{laid_none, laid_more, cut_is}
 use Rattle.planes.specs.Planes.{plane_cells}
-use borrow.Author.Rules.{rules}
-use native.Mathlib.Omega.{arith}
 use Rattle.plane_unpack_steps.proofs.lines.down.Given as goal
 
 abbrev pub invariant-loop-y : goal.invariant-loop-y

@@ -1,6 +1,5 @@
 -- Eight cases.
 use Rattle.plane_unpack_steps.proofs.Masks.{mask_is}
-use borrow.Author.Rules.{rules}
 use Rattle.plane_unpack_steps.proofs.lines.mask.Goals as goal
 
 pub returns : goal.returns

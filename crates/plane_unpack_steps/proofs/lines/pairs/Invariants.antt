@@ -1,13 +1,8 @@
 -- Each byte passed is the cell; the measure is what is left of the run.
-use mathlib.Core.Path.{◌≡◌, ap₂, ◌∙◌}
 use Prim.Native.Nat.{◌-◌, ◌≤◌}
 use lib.ListN.{length}
 use Rattle.ranges.specs.Ranges.{Ranged}
-use Rattle.ranges.proofs.Ranges.{ranged_none, ranged_more}
-use Rattle.planes.specs.Bits.{of_levels}
 use Rattle.plane_unpack_steps.specs.Pairs.{pair_bit}
-use borrow.Author.Rules.{rules}
-use native.Mathlib.Omega.{arith}
 use Rattle.plane_unpack_steps.proofs.lines.pairs.Given as goal
 
 abbrev pub invariant-loop-k : goal.invariant-loop-k
