@@ -1,13 +1,12 @@
 -- An arriving row, from its promise: the live frame cell by cell, and that a row is farther than the greatest |y| where it is farther than each.
 use mathlib.Core.Path.{◌≡◌, ◌∙◌, ap}
 use mathlib.Core.Logic.{◌⊎◌, inl, inr}
-use mathlib.Core.Bool.{not, ◌&&◌}
+use mathlib.Core.Bool.{not}
 use mathlib.Core.List.{List, ◌++◌}
 use Prim.Native.Nat.{ℕ, suc, ◌+◌, ◌-◌, ◌*◌, ◌<◌}
 use native.Mathlib.Omega.{arith}
 use native.Mathlib.Nat.{mul_comm}
 use lib.Dec.{T, ltb, lt→ltb, ltb→lt}
-use lib.IntN.{nat_abs}
 use lib.ListN.{length, get_or, drop, length-drop}
 use lib.Seq.{get_or-append-add}
 use Rattle.plane.specs.Lists.{In}

@@ -19,7 +19,6 @@ use Rattle.words.proofs.Refusals.{clear, ground_small}
 use Rattle.masks.specs.Mask.{mask_points}
 use Rattle.grids.specs.Frame.{over, frame, grid_size, short_image, frame_tests, load, LoadCounted}
 use Rattle.grids.specs.Grid.{outside_of, corner, grid, laid, put, written, put_tests, FramePut, stage_tests, Staged}
-use Rattle.grids.specs.Image.{cells}
 use Rattle.grids.specs.Rules.{Gives}
 use Rattle.grids.specs.Share.{measured, share_tests, TenThousandths, Shared}
 use Rattle.grids.specs.declared.Around.{Around}

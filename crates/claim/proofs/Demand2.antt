@@ -3,15 +3,12 @@
 use mathlib.Core.Path.{◌≡◌, sym, ◌∙◌, ap, ap₂, subst}
 use mathlib.Core.Bool.{not}
 use mathlib.Core.List.{List, [], ◌∷◌}
-use Prim.Native.Nat.{ℕ, ◌*◌, ◌≤◌}
-use native.Mathlib.Omega.{arith}
-use lib.Dec.{T, eqb, eqb→eq}
+use Prim.Native.Nat.{ℕ}
+use lib.Dec.{T}
 use lib.ListN.{length, take, drop}
 use lib.Seq.{take-append_seam, drop-append_seam}
 use Rattle.words.specs.declared.Answer.{Answer}
 use Rattle.cleaning.specs.declared.Operation.{Operation}
-use Rattle.grids.specs.Grid.{work_tests}
-use Rattle.plane.proofs.Tests.{un_not}
 use Rattle.plane.specs.Lists.{In}
 use Rattle.plane.specs.Point.{Point, PointSet, ◌+ᵖ◌, ◌-ᵖ◌, ◌≐◌, moved}
 use Rattle.plane.proofs.Algebra.{≐_trans, +ᵖ_cancel, subᵖ_cancel}

@@ -1,6 +1,6 @@
 -- What demand 2 says of frames in which every cell was measured, cases each read off the statement alone, as in Examples.
 use mathlib.Core.Path.{◌≡◌, refl, sym, ◌∙◌, ap, subst}
-use mathlib.Core.Logic.{◌≢◌, inl, inr, ⊎_elim}
+use mathlib.Core.Logic.{inl, inr, ⊎_elim}
 use mathlib.Core.Bool.{cond, ◌&&◌}
 use mathlib.Core.List.{List, [], ◌∷◌}
 use Prim.Native.Nat.{ℕ, zero, suc, ◌+◌, ◌*◌, ◌<◌}
@@ -13,7 +13,7 @@ use Rattle.plane.specs.Lists.{In}
 use Rattle.plane.specs.Point.{Point, ◌+ᵖ◌, negᵖ, erosion}
 use Rattle.words.specs.Ground.{stated}
 use Rattle.words.specs.declared.Answer.{Answer}
-use Rattle.masks.specs.Mask.{stage, mask_cells}
+use Rattle.masks.specs.Mask.{mask_cells}
 use Rattle.shapes.specs.Plan.{plan_points, plan_tests}
 use Rattle.grids.specs.Grid.{work_tests}
 use Rattle.grids.specs.Image.{value_at}

@@ -1,22 +1,12 @@
 -- How far cells reach: cells moved by (i, j) have coordinates to n where the last column and the last row with a cell have.
-use mathlib.Core.Path.{◌≡◌, sym, ◌∙◌, subst}
+use mathlib.Core.Path.{◌≡◌}
 use mathlib.Core.Logic.{inl, inr}
-use mathlib.Core.Bool.{Bool, true, false}
 use Prim.Native.Nat.{ℕ, ◌-◌, ◌≤◌}
 use native.Mathlib.Omega.{arith}
-use lib.Dec.{T}
 use Rattle.rows.specs.Cells.{Cells}
 use Rattle.extents.specs.Extents.{SomeCell, Least, LastOf, row, column}
 use Rattle.extents.proofs.Search.{last_at}
 use Rattle.elements.specs.Standing.{Within}
-
--- a test has one answer
-pub one_answer : (b : Bool) → b ≡ true → b ≡ false → ⊥
-one_answer b p q = subst T (sym p ∙ q) tt
-
--- what a test says that answers `false`
-pub answer_no : {P Q : Type 0} → Q → (false ≡ true → P) × (false ≡ false → Q)
-answer_no q = (λ e. absurd (subst T (sym e) tt), λ _. q)
 
 pub last_le : (number : ℕ → ℕ → ℕ) (X : Cells) (n : ℕ) → LastOf number X n → (x y : ℕ) → X x y → number x y ≤ n
 last_le number X n (inl g) x y c = g.all x y c

@@ -1,19 +1,16 @@
 -- What a reader's item is as a word, what a word of each kind holds, and how large its fields are.
 use mathlib.Core.Path.{◌≡◌, refl, sym, ap, subst, ◌∙◌}
-use mathlib.Core.Logic.{⊎_elim}
+use mathlib.Core.Logic.{◌≢◌, ⊎_elim}
 use mathlib.Core.Bool.{Bool, true, false}
-use mathlib.Core.List.{List, [], ◌∷◌}
+use mathlib.Core.List.{List, []}
 use Prim.Native.Nat.{ℕ, ◌/◌, ◌%◌, ◌^◌, ◌<◌, ◌≤◌}
 use native.Mathlib.Omega.{arith}
 use lib.Dec.{eqb}
 use lib.ListN.{length, get_or, get_or-eq_default}
-use denote.Enum.Declared.{tag_of}
-use types.Run.{OneOf, miss}
 use Rattle.plane.proofs.Tests.{lt_or_le}
 use Rattle.words.specs.Read.{word_of, pick}
 use Rattle.words.specs.Word.{kind, anchor_kind, row_kind, head_kind, place_kind, stage_kind, anchor_x, anchor_y, row_y, row_bits, head_count, place_x, place_y, stage_mask}
 use Rattle.words.specs.declared.Word.{Word}
-use Rattle.words.specs.contracts.Word.{the_type}
 use Rattle.words.specs.declared.Word.TheVariants.{Anchor, Row, Head, Place, Stage, Unused}
 use Rattle.readers.specs.Cursor.{item_at}
 use Rattle.readers.specs.declared.Item.{Item}
@@ -33,36 +30,36 @@ word_in_lem ws at = ⊎_elim
     (lt_or_le at (length ws))
 
 -- a word that is none of a kind holds nothing of that kind
-pub no_anchor : (v : Word) → OneOf (1 ∷ 2 ∷ 3 ∷ 4 ∷ 5 ∷ []) (tag_of the_type v) → anchor_in v ≡ (0, 0)
-no_anchor (Anchor ax ay) h = absurd (miss (1 ∷ 2 ∷ 3 ∷ 4 ∷ 5 ∷ []) 0 tt h)
+pub no_anchor : (w : Word) → ((ax ay : ℕ) → w ≢ Anchor ax ay) → anchor_in w ≡ (0, 0)
+no_anchor (Anchor ax ay) h = absurd (h ax ay refl)
 no_anchor (Row y columns) h = refl
 no_anchor (Head n) h = refl
 no_anchor (Place x y) h = refl
 no_anchor (Stage m) h = refl
 no_anchor (Unused k) h = refl
 
-pub no_row : (v : Word) → OneOf (0 ∷ 2 ∷ 3 ∷ 4 ∷ 5 ∷ []) (tag_of the_type v) → cells_in v ≡ []
+pub no_row : (w : Word) → ((y columns : ℕ) → w ≢ Row y columns) → cells_in w ≡ []
 no_row (Anchor ax ay) h = refl
-no_row (Row y columns) h = absurd (miss (0 ∷ 2 ∷ 3 ∷ 4 ∷ 5 ∷ []) 1 tt h)
+no_row (Row y columns) h = absurd (h y columns refl)
 no_row (Head n) h = refl
 no_row (Place x y) h = refl
 no_row (Stage m) h = refl
 no_row (Unused k) h = refl
 
-pub no_place : (v : Word) → OneOf (0 ∷ 1 ∷ 2 ∷ 4 ∷ 5 ∷ []) (tag_of the_type v) → place_in v ≡ (0, 0)
+pub no_place : (w : Word) → ((x y : ℕ) → w ≢ Place x y) → place_in w ≡ (0, 0)
 no_place (Anchor ax ay) h = refl
 no_place (Row y columns) h = refl
 no_place (Head n) h = refl
-no_place (Place x y) h = absurd (miss (0 ∷ 1 ∷ 2 ∷ 4 ∷ 5 ∷ []) 3 tt h)
+no_place (Place x y) h = absurd (h x y refl)
 no_place (Stage m) h = refl
 no_place (Unused k) h = refl
 
-pub no_stage : (v : Word) → OneOf (0 ∷ 1 ∷ 2 ∷ 3 ∷ 5 ∷ []) (tag_of the_type v) → mask_in v ≡ []
+pub no_stage : (w : Word) → ((m : ℕ) → w ≢ Stage m) → mask_in w ≡ []
 no_stage (Anchor ax ay) h = refl
 no_stage (Row y columns) h = refl
 no_stage (Head n) h = refl
 no_stage (Place x y) h = refl
-no_stage (Stage m) h = absurd (miss (0 ∷ 1 ∷ 2 ∷ 3 ∷ 5 ∷ []) 4 tt h)
+no_stage (Stage m) h = absurd (h m refl)
 no_stage (Unused k) h = refl
 
 -- ---- the fields of a word

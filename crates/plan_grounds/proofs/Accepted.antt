@@ -9,11 +9,10 @@ use Rattle.plane.proofs.Tests.{T_false, not_or}
 use Rattle.words.specs.Ground.{first_of}
 use Rattle.words.specs.Word.{place_x, place_y}
 use Rattle.words.proofs.Refusals.{Clear, clear}
-use Rattle.shapes.specs.Plan.{plan_masks, plan_points, plan_tests, wrong_plan_length, wrong_masks}
-use Rattle.shapes.specs.Shape.{out_of_range}
+use Rattle.shapes.specs.Plan.{plan_masks, plan_tests, wrong_plan_length, wrong_masks}
 use Rattle.word_grounds.proofs.Lengths.{within}
 use Rattle.plan_steps.specs.Extent.{extent_of}
-use Rattle.plan_grounds.proofs.Stages.{far, range_tried}
+use Rattle.plan_grounds.proofs.Stages.{range_tried}
 
 module _ (plan : List ℕ) (z : first_of (plan_tests plan) ≡ 0) where
   pub plan_clear : Clear (plan_tests plan)

@@ -3,13 +3,13 @@
 use mathlib.Core.Path.{◌≡◌, refl, sym, ◌∙◌, ap, subst}
 use mathlib.Core.Logic.{◌⊎◌, inl, inr}
 use mathlib.Core.Bool.{not}
-use mathlib.Core.List.{List, ◌++◌}
+use mathlib.Core.List.{List}
 use Prim.Native.Nat.{ℕ, suc, ◌+◌, ◌-◌, ◌*◌, ◌≤◌, ◌<◌, zero-le}
 use native.Mathlib.Omega.{arith}
 use native.Mathlib.Nat.{mul_comm, mul-le-mul_right, add-mul}
 use lib.Dec.{T, ltb, lt→ltb, ltb→lt}
 use lib.IntN.{pos}
-use lib.ListN.{length, get_or, take, drop, length-drop, get_or-append}
+use lib.ListN.{length, get_or, drop, length-drop, get_or-append}
 use lib.Seq.{get_or-take, get_or-drop}
 use Rattle.plane.specs.Lists.{In}
 use Rattle.plane.specs.Point.{Point}

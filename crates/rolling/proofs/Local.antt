@@ -3,7 +3,7 @@
 use mathlib.Core.Path.{◌≡◌, refl, sym, ◌∙◌, ap, subst}
 use mathlib.Core.Logic.{◌↔◌, inl, inr}
 use mathlib.Core.Bool.{Bool, true, false, not, ◌||◌}
-use mathlib.Core.List.{List, ◌∷◌, map}
+use mathlib.Core.List.{List, [], ◌∷◌, map}
 use Prim.Native.Nat.{ℕ, zero, suc, ◌≤◌}
 use native.Mathlib.Omega.{arith}
 use lib.Dec.{T, ltb, nltb→le}
@@ -114,6 +114,7 @@ module _ (P : List Point) (o : T (not (out_of_range P))) where
 
 pub greatest_y_lem : (P : List Point) (a : Point) → In P a → nat_abs a.1 ≤ greatest_y P
 unfolding greatest_y
+greatest_y_lem [] a h = elim h [ ]
 greatest_y_lem (p ∷ P) a (inl e) = let q : nat_abs a.1 ≡ nat_abs p.1 = ap (λ z. nat_abs z.1) e in omega arith
 greatest_y_lem (p ∷ P) a (inr h) = let r = greatest_y_lem P a h in omega arith
 

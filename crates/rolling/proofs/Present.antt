@@ -58,7 +58,7 @@ module _ (W H : ℕ) (row live kept : List ℕ) (A : Accepted W H row live kept)
   pub live_good : Good W H (rolled W live row)
   live_good = record {
     size = length-append (drop W live) row ∙ (let d = length-drop W live in let r = room in let e = A.live_size in let f = A.row_size in omega arith);
-    clean = rolled_clean W live row A.live-Clean A.row_clean;
+    clean = rolled_clean W live row A.live_clean A.row_clean;
   }
 
   pub kept_good : (P : List Point) (live' kept' : List ℕ) → Rolled P W H row live kept live' kept' → Good W H kept'

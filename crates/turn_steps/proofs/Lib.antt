@@ -1,3 +1,2 @@
 pub mod Alternating
 pub mod Ending
-pub mod Told

@@ -3,11 +3,8 @@ use mathlib.Core.Logic.{⊎_elim}
 use Rattle.rows.proofs.RowBits.{bit_in}
 use Rattle.rows.proofs.Sums.{zero_at}
 use Rattle.edges.proofs.Greatest.{raised_none, row_topped}
-use borrow.Author.Rules.{rules}
 use native.Mathlib.Omega.{arith}
 use Rattle.edge_steps.proofs.greatest_in.Goals as goal
-
-)
 
 pub returns-then-row-eq0 : goal.returns-then-row-eq0
 returns-then-row-eq0 c = record { some = λ i l p q. absurd (omega arith); none = λ e i. zero_at 16 i }
@@ -19,6 +16,7 @@ pub raised-requires : goal.raised-requires
 raised-requires c = (
   omega (arith, bit_in 16 _ _ (omega arith) (c.first_in.ensures.some (omega arith)).cell),
   (omega (arith, bit_in 16 _ _ (omega arith) c.last_in.ensures.cell), omega arith),
+)
 
 pub returns : goal.returns
 returns c =

@@ -2,7 +2,6 @@
 use Rattle.edges.proofs.Columns.{last_of}
 use Prim.Native.Nat.{◌<◌}
 use native.Mathlib.Omega.{arith}
-use borrow.Author.Rules.{rules}
 use Rattle.edge_steps.proofs.last_in.Goals as goal
 
 pub overflow_sub-result : goal.overflow_sub-result

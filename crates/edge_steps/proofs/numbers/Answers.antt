@@ -1,6 +1,6 @@
 use mathlib.Core.Path.{◌≡◌, refl, ◌∙◌}
-use Prim.Native.Nat.{ℕ, ◌+◌, ◌*◌, ◌≤◌, ◌<◌, ◌-◌}
-use lib.ListN.{length, get_or, length-set}
+use Prim.Native.Nat.{◌+◌, ◌*◌}
+use lib.ListN.{get_or, length-set}
 use Rattle.rows.proofs.Known.{rows16}
 use Rattle.edges.specs.Edges.{first_direction, second_direction, middle_of, times_of}
 use Rattle.edges.proofs.Directions.{inside}

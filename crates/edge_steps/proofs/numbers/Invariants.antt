@@ -1,14 +1,8 @@
 -- The invariant: r has the numbers before i, each by the greatest values of its three directions. The measure: the numbers left.
-use mathlib.Core.Path.{◌≡◌, refl, ◌∙◌}
+use mathlib.Core.Path.{◌≡◌}
 use Prim.Native.Nat.{ℕ, ◌+◌, ◌*◌, ◌≤◌, ◌<◌, ◌-◌}
-use lib.ListN.{length, get_or, length-set}
-use Rattle.rows.proofs.Known.{rows16}
+use lib.ListN.{length, get_or}
 use Rattle.edges.specs.Edges.{first_direction, second_direction, middle_of, times_of}
-use Rattle.edges.proofs.Directions.{inside}
-use Rattle.edges.proofs.Storing.{stored}
-use Rattle.edges.proofs.Greatest.{fits, numbered_none, numbered_all}
-use borrow.Author.Rules.{rules}
-use native.Mathlib.Omega.{arith}
 use Rattle.edge_steps.proofs.numbers.Given as goal
 
 abbrev pub invariant-loop-i : goal.invariant-loop-i

@@ -1,12 +1,10 @@
-use mathlib.Core.Path.{◌≡◌, refl, ◌∙◌}
-use Prim.Native.Nat.{ℕ, ◌≤◌, ◌<◌, ◌-◌}
-use lib.ListN.{length, get_or, length-set}
+use mathlib.Core.Path.{refl, ◌∙◌}
+use lib.ListN.{get_or, length-set}
 use Rattle.edges.specs.Edges.{plus_x, plus_y, minus_x, minus_y}
 use Rattle.edges.specs.Numbers.{Supported}
 use Rattle.edges.proofs.Directions.{small}
 use Rattle.edges.proofs.Storing.{stored}
 use Rattle.edges.proofs.Greatest.{raised_one}
-use borrow.Author.Rules.{rules}
 use native.Mathlib.Omega.{arith}
 use Rattle.edge_steps.proofs.raised.Goals as goal
 

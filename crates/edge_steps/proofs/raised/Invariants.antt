@@ -1,14 +1,8 @@
 -- The invariant: r has the greater values of the directions before i. The measure: the directions left.
-use mathlib.Core.Path.{◌≡◌, refl, ◌∙◌}
+use mathlib.Core.Path.{◌≡◌}
 use Prim.Native.Nat.{ℕ, ◌≤◌, ◌<◌, ◌-◌}
-use lib.ListN.{length, get_or, length-set}
-use Rattle.edges.specs.Edges.{plus_x, plus_y, minus_x, minus_y}
+use lib.ListN.{length, get_or}
 use Rattle.edges.specs.Numbers.{Supported}
-use Rattle.edges.proofs.Directions.{small}
-use Rattle.edges.proofs.Storing.{stored}
-use Rattle.edges.proofs.Greatest.{raised_one}
-use borrow.Author.Rules.{rules}
-use native.Mathlib.Omega.{arith}
 use Rattle.edge_steps.proofs.raised.Given as goal
 
 abbrev pub invariant-loop-i : goal.invariant-loop-i

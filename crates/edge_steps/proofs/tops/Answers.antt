@@ -1,15 +1,14 @@
 use mathlib.Core.List.{List}
 use Rattle.rows.proofs.Sums.{zero_at}
 use mathlib.Core.Path.{◌≡◌, sym, subst}
-use mathlib.Core.Logic.{⊎_elim}
-use Prim.Native.Nat.{ℕ, ◌+◌, ◌≤◌, ◌<◌, ◌-◌}
+use Prim.Native.Nat.{ℕ, ◌+◌}
 use lib.ListN.{get_or}
 use Rattle.rows.proofs.Known.{rows16}
 use Rattle.rows.proofs.RowBits.{bit_in}
 use Rattle.edges.specs.Numbers.{Topped}
 use Rattle.edges.proofs.Greatest.{topped_none, topped_skip, topped_row}
-use borrow.Author.Rules.{rules}
 use native.Mathlib.Omega.{arith}
+use Rattle.edge_steps.proofs.tops.Goals.{then-row-ne0, else-row-ne0}
 use Rattle.edge_steps.proofs.tops.Goals as goal
 
 pub loop-y-init : goal.loop-y-init
@@ -28,15 +27,14 @@ pub loop-y-preserved : goal.loop-y-preserved
 loop-y-preserved c =
     let h = c.loop-y in
     let cells = c.args.cells in
-    let y = h.y in
-    ⊎_elim
-    (λ w. (
+    let y = h.y in (
       omega arith,
-      λ i l. subst (λ (s : List ℕ). Topped i cells (y + 1) (get_or s i 0)) (sym w.4)
-          (topped_row i cells l y _ _ (w.1.ensures.some (omega (arith, w.0))) w.2.ensures _ _ (h.invariant.1 i l) (w.3.ensures i l)),
-    ))
-    (λ w. (omega arith, λ i l. subst (λ (s : List ℕ). Topped i cells (y + 1) (get_or s i 0)) (sym w.1) (topped_skip i cells y _ w.0.left (h.invariant.1 i l))))
-    c.if-row-ne0.branch
+      elim c.if-row-ne0.branch [
+        | then-row-ne0 w ↦ λ i l. subst (λ (s : List ℕ). Topped i cells (y + 1) (get_or s i 0)) (sym w.s-is)
+            (topped_row i cells l y _ _ (w.first_in.ensures.some (omega (arith, w.if-row-ne0.true))) w.last_in.ensures _ _ (h.invariant.1 i l) (w.raised-next.ensures i l))
+        | else-row-ne0 w ↦ λ i l. subst (λ (s : List ℕ). Topped i cells (y + 1) (get_or s i 0)) (sym w.s-is) (topped_skip i cells y _ w.if-row-ne0.false (h.invariant.1 i l))
+      ],
+    )
 
 pub returns : goal.returns
 returns c =

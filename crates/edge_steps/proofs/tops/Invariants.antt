@@ -1,16 +1,7 @@
 -- The invariant: s has the greatest values on the rows before y. The measure: the rows left.
-use mathlib.Core.List.{List}
-use Rattle.rows.proofs.Sums.{zero_at}
-use mathlib.Core.Path.{◌≡◌, sym, subst}
-use mathlib.Core.Logic.{⊎_elim}
-use Prim.Native.Nat.{ℕ, ◌+◌, ◌≤◌, ◌<◌, ◌-◌}
+use Prim.Native.Nat.{ℕ, ◌≤◌, ◌<◌, ◌-◌}
 use lib.ListN.{get_or}
-use Rattle.rows.proofs.Known.{rows16}
-use Rattle.rows.proofs.RowBits.{bit_in}
 use Rattle.edges.specs.Numbers.{Topped}
-use Rattle.edges.proofs.Greatest.{topped_none, topped_skip, topped_row}
-use borrow.Author.Rules.{rules}
-use native.Mathlib.Omega.{arith}
 use Rattle.edge_steps.proofs.tops.Given as goal
 
 abbrev pub invariant-loop-y : goal.invariant-loop-y

@@ -1,31 +1,22 @@
 -- What can be worked out is, on one plane or on two.
 use mathlib.Core.Path.{refl}
-use borrow.Author.Tests.{not-true, not-false}
-use Rattle.end_steps.specs.Ends.{EndPart}
 use Rattle.end_steps.proofs.EndPlanes.{none_above}
 use borrow.Author.Rules.{rules}
 use Rattle.end_steps.proofs.rows.Goals as goal
 
-able : (c : goal.Else-not-workable) → let a = c.args in
-    EndPart a.plan.now a.w a.e a.part.now a.s a.t a.d.now
-able c = c.workable.ensures.yes (c.if-not-workable.false)
-
 pub returns-then-not-workable : goal.returns-then-not-workable
-returns-then-not-workable c = record { through = λ q. absurd (c.workable.ensures.no (c.if-not-workable.true) q); unchanged = λ _. refl }
+returns-then-not-workable c = record { through = λ q. absurd (c.workable.ensures.no c.if-not-workable.true q); unchanged = λ _. refl }
 
 pub by_two-requires : goal.by_two-requires
-by_two-requires c = able c
+by_two-requires c = c.workable.ensures.yes c.if-not-workable.false
 
 pub returns-then-greatest-gt1 : goal.returns-then-greatest-gt1
-returns-then-greatest-gt1 c =
-    record { through = λ _. c.by_two.ensures; unchanged = λ n. absurd (n (able c)) }
+returns-then-greatest-gt1 c = record { through = λ _. c.by_two.ensures; unchanged = λ n. absurd (n (c.workable.ensures.yes c.if-not-workable.false)) }
 
 pub by_one-requires : goal.by_one-requires
 by_one-requires c =
-    let st = c in
-    let E = able c in
+    let E = c.workable.ensures.yes c.if-not-workable.false in
     (E, none_above E.whole c.greatest_cell-greatest.ensures c.if-greatest-gt1.false)
 
 pub returns : goal.returns
-returns c =
-    record { through = λ _. c.by_one.ensures; unchanged = λ n. absurd (n (able c)) }
+returns c = record { through = λ _. c.by_one.ensures; unchanged = λ n. absurd (n (c.workable.ensures.yes c.if-not-workable.false)) }

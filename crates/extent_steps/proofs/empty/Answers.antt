@@ -1,5 +1,4 @@
 -- A row with a cell is found where there is one.
-use borrow.Author.Rules.{rules}
 use borrow.Author.Tests.{eqb-true, eqb-false}
 use Rattle.rows.proofs.Known.{rows16}
 use Rattle.extents.proofs.Search.{first_none, first_some}

@@ -1,11 +1,10 @@
-use borrow.Author.Rules.{rules}
 use native.Mathlib.Omega.{arith}
-use Prim.Native.Nat.{◌≤◌, ◌-◌}
+use Prim.Native.Nat.{◌-◌}
 use mathlib.Core.Path.{refl}
 use Rattle.rows.specs.Cells.{At}
 use Rattle.rows.proofs.Known.{rows16}
 use Rattle.rows.proofs.Sums.{in_y, row_cell}
-use Rattle.extents.proofs.Search.{Below, below_less, below_found, below_done, row_clear}
+use Rattle.extents.proofs.Search.{below_less, below_found, below_done, row_clear}
 use Rattle.extents.specs.Extents.{row}
 use Rattle.extent_steps.proofs.last_row.Goals as goal
 

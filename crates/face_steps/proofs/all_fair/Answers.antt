@@ -1,11 +1,6 @@
 use mathlib.Core.Bool.{true≢false, false≢true}
-use Prim.Native.Nat.{ℕ, ◌≤◌, ◌<◌, ◌-◌}
 use borrow.Author.Count.{below_more}
-use borrow.Author.Tests.{not-true, not-false}
-use lib.ListN.{get_or}
-use Rattle.faces.specs.Faces.{only_of, Fair}
-use Rattle.faces.specs.Bits.{Bits}
-use borrow.Author.Rules.{rules}
+use Rattle.faces.specs.Faces.{only_of}
 use native.Mathlib.Omega.{arith}
 use Rattle.face_steps.proofs.all_fair.Goals as goal
 

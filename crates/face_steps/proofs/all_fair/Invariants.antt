@@ -1,13 +1,8 @@
 -- The invariant: the faces before direction i are fair. The measure: the directions left.
-use mathlib.Core.Bool.{true≢false, false≢true}
 use Prim.Native.Nat.{ℕ, ◌≤◌, ◌<◌, ◌-◌}
-use borrow.Author.Count.{below_more}
-use borrow.Author.Tests.{not-true, not-false}
 use lib.ListN.{get_or}
 use Rattle.faces.specs.Faces.{only_of, Fair}
 use Rattle.faces.specs.Bits.{Bits}
-use borrow.Author.Rules.{rules}
-use native.Mathlib.Omega.{arith}
 use Rattle.face_steps.proofs.all_fair.Given as goal
 
 abbrev pub invariant-loop-i : goal.invariant-loop-i

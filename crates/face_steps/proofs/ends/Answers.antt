@@ -1,6 +1,5 @@
 -- The bits of the word less those that have one a step later.
 use Rattle.faces.proofs.BitEnds.{ends_of}
-use borrow.Author.Rules.{rules}
 use Rattle.face_steps.proofs.ends.Goals as goal
 
 pub returns : goal.returns

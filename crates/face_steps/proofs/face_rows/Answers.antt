@@ -1,14 +1,13 @@
 use mathlib.Core.Path.{◌≡◌, sym, subst}
-use mathlib.Core.Logic.{⊎_elim}
 use mathlib.Core.List.{List}
-use Prim.Native.Nat.{ℕ, ◌+◌, ◌≤◌, ◌<◌, ◌-◌}
+use Prim.Native.Nat.{ℕ, ◌+◌}
 use lib.ListN.{get_or}
 use Rattle.rows.proofs.Known.{rows16}
 use Rattle.rows.proofs.Sums.{zero_at}
 use Rattle.faces.specs.Bits.{RowsTo}
 use Rattle.faces.proofs.Marking.{rows_none, rows_skip, rows_more, rows_done}
-use borrow.Author.Rules.{rules}
 use native.Mathlib.Omega.{arith}
+use Rattle.face_steps.proofs.face_rows.Goals.{then-row-ne0, else-row-ne0}
 use Rattle.face_steps.proofs.face_rows.Goals as goal
 
 pub loop-y-init : goal.loop-y-init
@@ -21,15 +20,14 @@ loop-y-preserved c =
     let cells = st.args.cells in
     let s = st.greatest_of-s in
     let y = h.y in
-    let to : (i : ℕ) → List ℕ → Type 0 = λ i r. RowsTo i cells (get_or s.result i 0) (y + 1) (get_or r i 0) in
-    ⊎_elim
-    (λ w. (
+    let to : (i : ℕ) → List ℕ → Type 0 = λ i r. RowsTo i cells (get_or s.result i 0) (y + 1) (get_or r i 0) in (
       omega arith,
-      λ i l. let v = w.1.ensures.some i l (omega (arith, w.0)) (omega arith) in
-          subst (to i) (sym w.3) (rows_more i cells _ (s.ensures i l) y _ _ _ (omega arith) v (h.invariant.1 i l) (w.2.ensures i l)),
-    ))
-    (λ w. (omega arith, λ i l. subst (to i) (sym w.1) (rows_skip i cells _ y _ w.0.left (h.invariant.1 i l))))
-    c.if-row-ne0.branch
+      elim c.if-row-ne0.branch [
+        | then-row-ne0 w ↦ λ i l. let v = w.greatest_in.ensures.some i l (omega (arith, w.if-row-ne0.true)) (omega arith) in
+            subst (to i) (sym w.r-is) (rows_more i cells _ (s.ensures i l) y _ _ _ (omega arith) v (h.invariant.1 i l) (w.marked-next.ensures i l))
+        | else-row-ne0 w ↦ λ i l. subst (to i) (sym w.r-is) (rows_skip i cells _ y _ w.if-row-ne0.false (h.invariant.1 i l))
+      ],
+    )
 
 pub returns : goal.returns
 returns c =

@@ -1,15 +1,7 @@
 -- The invariant: r has the rows before y that each face has. The measure: the rows left.
-use mathlib.Core.Path.{◌≡◌, sym, subst}
-use mathlib.Core.Logic.{⊎_elim}
-use mathlib.Core.List.{List}
-use Prim.Native.Nat.{ℕ, ◌+◌, ◌≤◌, ◌<◌, ◌-◌}
+use Prim.Native.Nat.{ℕ, ◌≤◌, ◌<◌, ◌-◌}
 use lib.ListN.{get_or}
-use Rattle.rows.proofs.Known.{rows16}
-use Rattle.rows.proofs.Sums.{zero_at}
 use Rattle.faces.specs.Bits.{RowsTo}
-use Rattle.faces.proofs.Marking.{rows_none, rows_skip, rows_more, rows_done}
-use borrow.Author.Rules.{rules}
-use native.Mathlib.Omega.{arith}
 use Rattle.face_steps.proofs.face_rows.Given as goal
 
 abbrev pub invariant-loop-y : goal.invariant-loop-y

@@ -7,7 +7,6 @@ use Rattle.rows.specs.Cells.{bit}
 use Rattle.rows.proofs.RowBits.{bit_in, no_bit}
 use Rattle.faces.proofs.BitEnds.{lone_of, two_of}
 use native.Mathlib.Omega.{arith}
-use borrow.Author.Rules.{rules}
 use Rattle.face_steps.proofs.lone.Goals as goal
 
 pub returns-then-b-eq0 : goal.returns-then-b-eq0

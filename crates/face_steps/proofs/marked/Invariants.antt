@@ -1,12 +1,8 @@
 -- The invariant: r has the words before i. The measure: the words left.
-use mathlib.Core.Path.{◌≡◌, refl, ◌∙◌}
+use mathlib.Core.Path.{◌≡◌}
 use Prim.Native.Nat.{ℕ, ◌≤◌, ◌<◌, ◌-◌}
-use lib.ListN.{length, get_or, length-set}
-use Rattle.edges.proofs.Storing.{stored}
+use lib.ListN.{length, get_or}
 use Rattle.faces.specs.Bits.{Marked}
-use Rattle.faces.proofs.Marking.{marked_one}
-use borrow.Author.Rules.{rules}
-use native.Mathlib.Omega.{arith}
 use Rattle.face_steps.proofs.marked.Given as goal
 
 abbrev pub invariant-loop-i : goal.invariant-loop-i

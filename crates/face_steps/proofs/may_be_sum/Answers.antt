@@ -1,11 +1,9 @@
 -- The words have the rows and the columns of the faces, so each test is of a face.
 use mathlib.Core.Bool.{false≢true}
-use borrow.Author.Tests.{not-true, not-false}
 use Rattle.rows.specs.Cells.{At}
 use Rattle.faces.proofs.Marking.{level_4, level_12, columns_shown, into_bits, out_of_bits}
 use Rattle.faces.proofs.Shadows.{no_rows, no_columns}
 use native.Mathlib.Omega.{arith}
-use borrow.Author.Rules.{rules}
 use Rattle.face_steps.proofs.may_be_sum.Goals as goal
 
 pub returns-then-not-fair : goal.returns-then-not-fair
@@ -32,8 +30,11 @@ returns c =
     let cells = faces.args.cells in
     let rows = faces.face_rows-rows.ensures in
     let w4 = columns_shown 4 level_4 cells _ _ (rows 4 (omega arith)) f.row_at.ensures in
-    let w12 = columns_shown 12 level_12 cells _ _ (rows 12 (omega arith)) g.row_at-2.ensures in record { yes = λ e. record {
+    let w12 = columns_shown 12 level_12 cells _ _ (rows 12 (omega arith)) g.row_at-2.ensures in record {
+      yes = λ e. record {
         rows = λ i l. out_of_bits (rows i l) ((c.all_fair.ensures.yes e).fair i l);
         last = out_of_bits w4 (f.fair.ensures.yes (g.if-not-fair.false));
         first = out_of_bits w12 (g.fair-2.ensures.yes (c.if-not-fair-2.false));
-      }; no = λ e. let u = c.all_fair.ensures.no e in no_rows (At cells) u.i u.inside (λ s. u.never (into_bits (rows u.i u.inside) s)) }
+      };
+      no = λ e. let u = c.all_fair.ensures.no e in no_rows (At cells) u.i u.inside (λ s. u.never (into_bits (rows u.i u.inside) s));
+    }

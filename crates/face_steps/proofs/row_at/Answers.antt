@@ -2,7 +2,6 @@
 use Rattle.rows.proofs.RowBits.{bit_in}
 use mathlib.Core.Path.{refl}
 use native.Mathlib.Omega.{arith}
-use borrow.Author.Rules.{rules}
 use Rattle.face_steps.proofs.row_at.Goals as goal
 
 pub returns-then-b-eq0 : goal.returns-then-b-eq0

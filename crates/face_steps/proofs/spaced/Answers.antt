@@ -1,7 +1,6 @@
 -- One end is one run of steps; two ends are two.
 use Rattle.faces.proofs.BitEnds.{two_ends, one_end}
 use native.Mathlib.Omega.{arith}
-use borrow.Author.Rules.{rules}
 use Rattle.face_steps.proofs.spaced.Goals as goal
 
 pub returns : goal.returns

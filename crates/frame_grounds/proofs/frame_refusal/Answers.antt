@@ -1,5 +1,4 @@
 -- With the greatest number that was found the grounds are the frame's.
-use borrow.Author.Rules.{rules}
 use mathlib.Core.Path.{◌∙◌, ap}
 use Rattle.words.specs.Ground.{refusal, first_of}
 use Rattle.frame_grounds.specs.Looking.{frame_tests_by}

@@ -1,5 +1,4 @@
 -- Each ground in turn, one test more.
-use borrow.Author.Rules.{rules}
 use mathlib.Core.Path.{refl}
 use lib.ListN.{take}
 use Rattle.plane.proofs.Tests.{T_false}

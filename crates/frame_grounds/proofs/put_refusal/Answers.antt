@@ -1,5 +1,4 @@
 -- The tests of the frame, and the one of the image more.
-use borrow.Author.Rules.{rules}
 use Rattle.grids.specs.Frame.{frame_tests}
 use Rattle.grids.specs.Grid.{put_tests}
 use Rattle.words.proofs.Refusals.{tried_more}

@@ -1,5 +1,4 @@
 -- The tests of the frame, and the one of both images more.
-use borrow.Author.Rules.{rules}
 use mathlib.Core.Bool.{◌||◌}
 use Rattle.grids.specs.Frame.{short_image}
 use Rattle.words.proofs.Refusals.{tried_more}

@@ -2,7 +2,6 @@
 use Prim.Native.Nat.{◌-◌, ◌<◌}
 use Rattle.text.proofs.Lines.{digit_some, digit_none, digit_low, digit_high}
 use native.Mathlib.Omega.{arith}
-use borrow.Author.Rules.{rules}
 use Rattle.line_steps.proofs.digit_of.Goals as goal
 
 pub returns-then-b-lt48 : goal.returns-then-b-lt48

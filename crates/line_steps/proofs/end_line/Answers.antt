@@ -3,7 +3,6 @@ use mathlib.Core.Path.{refl}
 use Rattle.text.proofs.Lines.{digit_no_feed}
 use Rattle.text.proofs.Readings.{spoils, ends_line}
 use native.Mathlib.Omega.{arith}
-use borrow.Author.Rules.{rules}
 use Rattle.line_steps.proofs.end_line.Goals as goal
 
 pub returns-then-line-ne8 : goal.returns-then-line-ne8

@@ -2,7 +2,6 @@
 use mathlib.Core.Path.{refl}
 use Rattle.text.proofs.Readings.{spoils, no_next, goes_on}
 use native.Mathlib.Omega.{arith}
-use borrow.Author.Rules.{rules}
 use Rattle.line_steps.proofs.read_one.Goals as goal
 
 pub returns-then-b-eq10 : goal.returns-then-b-eq10

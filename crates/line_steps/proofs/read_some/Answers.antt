@@ -1,8 +1,4 @@
-use Prim.Native.Nat.{◌≤◌, ◌-◌}
-use lib.ListN.{length, take}
-use Rattle.text.specs.Reader.{Further}
 use Rattle.text.proofs.Readings.{further_none, further_more, further_end}
-use borrow.Author.Rules.{rules}
 use native.Mathlib.Omega.{arith}
 use Rattle.line_steps.proofs.read_some.Goals as goal
 

@@ -4,7 +4,6 @@ use native.Mathlib.Numerals.{add-one}
 use lib.ListN.{take, set}
 use lib.Seq.{take-suc-set}
 use native.Mathlib.Omega.{arith}
-use borrow.Author.Rules.{rules}
 use Rattle.line_steps.proofs.with_word.Goals as goal
 
 pub returns-then-i-ge18 : goal.returns-then-i-ge18

@@ -1,8 +1,5 @@
-use Prim.Native.Nat.{◌≤◌, ◌-◌, min}
+use Prim.Native.Nat.{◌-◌}
 use native.Mathlib.Omega.{arith}
-use lib.ListN.{length}
-use borrow.Author.Rules.{rules}
-use Rattle.lists.specs.Held.{SumRows, masks_from}
 use Rattle.lists.proofs.Summed.{sum_origin, sum_more, sum_end}
 use Rattle.list_steps.proofs.plan_rows.Goals as goal
 

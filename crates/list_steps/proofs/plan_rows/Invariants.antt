@@ -1,10 +1,7 @@
 -- The invariant: r is the sum of the masks from i on, cut to the window. The measure: the words before i.
-use Prim.Native.Nat.{◌≤◌, ◌-◌, min}
-use native.Mathlib.Omega.{arith}
+use Prim.Native.Nat.{◌≤◌, min}
 use lib.ListN.{length}
-use borrow.Author.Rules.{rules}
 use Rattle.lists.specs.Held.{SumRows, masks_from}
-use Rattle.lists.proofs.Summed.{sum_origin, sum_more, sum_end}
 use Rattle.list_steps.proofs.plan_rows.Given as goal
 
 abbrev pub invariant-loop-i : goal.invariant-loop-i

@@ -1,6 +1,5 @@
 -- A word of the kind holds its fields; one of another kind holds 0 and 0.
 use mathlib.Core.Path.{sym, ap, ◌∙◌}
-use borrow.Author.Rules.{rules}
 use Rattle.plane.specs.Point.{Cell}
 use Rattle.lists.specs.Held.{place_in}
 use Rattle.lists.proofs.Fields.{no_place}
@@ -15,5 +14,5 @@ returns-in-Place c =
 pub returns-in_default : goal.returns-in_default
 returns-in_default c =
     let k = c in
-    let e = sym (no_place k.word_at-word.result c.in_default.in_default-own.keys2) ∙ ap place_in k.word_at-word.ensures in
+    let e = sym (no_place k.word_at-word.result c.in_default.not-Place) ∙ ap place_in k.word_at-word.ensures in
     (ap (λ (p : Cell). p.0) e, ap (λ (p : Cell). p.1) e)

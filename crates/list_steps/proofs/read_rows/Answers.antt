@@ -1,8 +1,5 @@
-use Prim.Native.Nat.{◌≤◌, ◌-◌}
 use native.Mathlib.Omega.{arith}
-use lib.ListN.{length}
-use borrow.Author.Rules.{rules}
-use Rattle.lists.proofs.Joined.{ReadTo, read_none, read_more, read_end}
+use Rattle.lists.proofs.Joined.{read_none, read_more, read_end}
 use Rattle.list_steps.proofs.read_rows.Goals as goal
 
 pub loop-i-init : goal.loop-i-init

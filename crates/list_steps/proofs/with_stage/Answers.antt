@@ -1,7 +1,6 @@
 -- A stage word's mask is added; a word of another kind has none.
 use mathlib.Core.Path.{sym, ap, ◌∙◌}
 use lib.ListN.{get_or}
-use borrow.Author.Rules.{rules}
 use Rattle.lists.specs.Held.{mask_in}
 use Rattle.lists.proofs.Fields.{no_stage}
 use Rattle.lists.proofs.Summed.{stage_sum, stage_none}
@@ -19,4 +18,4 @@ pub returns-in_default : goal.returns-in_default
 returns-in_default c =
     let k = c in
     let args = k.args in
-    stage_none args.z (get_or args.ws.now args.at 0) (ap mask_in (sym k.word_at-word.ensures) ∙ no_stage k.word_at-word.result c.in_default.in_default-own.keys2)
+    stage_none args.z (get_or args.ws.now args.at 0) (ap mask_in (sym k.word_at-word.ensures) ∙ no_stage k.word_at-word.result c.in_default.not-Stage)

@@ -1,7 +1,6 @@
 -- A row word is joined where it stands; a word of another kind has no cells.
 use mathlib.Core.Path.{sym, ap, ◌∙◌}
 use lib.ListN.{get_or}
-use borrow.Author.Rules.{rules}
 use Rattle.rows.proofs.Known.{rows16}
 use Rattle.lists.specs.Held.{cells_in}
 use Rattle.lists.proofs.Fields.{no_row}
@@ -16,7 +15,4 @@ returns-in-Row c =
     (sym k.word_at-word.ensures ∙ c.in-Row.is)
 
 pub returns-in_default : goal.returns-in_default
-returns-in_default c =
-    let k = c in
-    let args = k.args in
-    word_none args.z (get_or args.ws.now args.at 0) (ap cells_in (sym k.word_at-word.ensures) ∙ no_row k.word_at-word.result c.in_default.in_default-own.keys2)
+returns-in_default c = word_none c.args.z (get_or c.args.ws.now c.args.at 0) (ap cells_in (sym c.word_at-word.ensures) ∙ no_row c.word_at-word.result c.in_default.not-Row)

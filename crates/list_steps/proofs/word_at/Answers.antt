@@ -1,6 +1,5 @@
 -- What the reader finds is the word at the position; the end is of no used kind, as is the word 0.
 use mathlib.Core.Path.{sym, ap, ◌∙◌}
-use borrow.Author.Rules.{rules}
 use Rattle.lists.proofs.Fields.{word_in, word_in_lem}
 use Rattle.list_steps.proofs.word_at.Goals as goal
 

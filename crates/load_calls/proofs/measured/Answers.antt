@@ -1,5 +1,4 @@
 -- Those that are 2 and those that were measured are all.
-use borrow.Author.Rules.{rules}
 use mathlib.Core.Path.{sym}
 use native.Mathlib.Omega.{arith}
 use Rattle.cell_steps.proofs.Loops.{counted_most, times_measured, all_measured}

@@ -1,10 +1,9 @@
 use mathlib.Core.Path.{◌≡◌, refl, subst}
-use Prim.Native.Nat.{ℕ, ◌≤◌, ◌-◌}
-use lib.ListN.{length, length-set}
+use Prim.Native.Nat.{ℕ}
+use lib.ListN.{length-set}
 use Rattle.rows.proofs.Fill.{Filled, fill_none, fill_more}
 use Rattle.rows.proofs.Sums.{zero_at}
 use Rattle.rows.proofs.Strips.{sum_row, grown_made}
-use borrow.Author.Rules.{rules}
 use native.Mathlib.Omega.{arith}
 use Rattle.mask_steps.proofs.grown.Goals as goal
 

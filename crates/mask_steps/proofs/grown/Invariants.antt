@@ -1,12 +1,9 @@
 -- The invariant: the rows before y are made. The measure: the rows left.
-use mathlib.Core.Path.{◌≡◌, refl, subst}
-use Prim.Native.Nat.{ℕ, ◌≤◌, ◌-◌}
-use lib.ListN.{length, length-set}
-use Rattle.rows.proofs.Fill.{Filled, fill_none, fill_more}
-use Rattle.rows.proofs.Sums.{zero_at}
-use Rattle.rows.proofs.Strips.{sum_row, grown_made}
-use borrow.Author.Rules.{rules}
-use native.Mathlib.Omega.{arith}
+use mathlib.Core.Path.{◌≡◌}
+use Prim.Native.Nat.{◌≤◌, ◌-◌}
+use lib.ListN.{length}
+use Rattle.rows.proofs.Fill.{Filled}
+use Rattle.rows.proofs.Strips.{sum_row}
 use Rattle.mask_steps.proofs.grown.Given as goal
 
 abbrev pub invariant-loop-y : goal.invariant-loop-y

@@ -1,11 +1,10 @@
 use mathlib.Core.Path.{◌≡◌, refl, sym, ap, subst}
-use Prim.Native.Nat.{ℕ, ◌≤◌, ◌+◌, ◌-◌}
-use lib.ListN.{get_or, length, set, length-set}
+use Prim.Native.Nat.{ℕ, ◌+◌, ◌-◌}
+use lib.ListN.{get_or, set, length-set}
 use Rattle.rows.proofs.Fill.{Filled, fill_none, fill_more}
 use Rattle.rows.proofs.Known.{rows16}
 use Rattle.rows.proofs.Sums.{zero_at}
 use Rattle.rows.proofs.Strips.{led_made}
-use borrow.Author.Rules.{rules}
 use native.Mathlib.Omega.{arith}
 use Rattle.mask_steps.proofs.led.Goals as goal
 

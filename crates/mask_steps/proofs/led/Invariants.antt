@@ -1,13 +1,8 @@
 -- The invariant: the rows before y stand two rows on. The measure: the rows left.
-use mathlib.Core.Path.{◌≡◌, refl, sym, ap, subst}
-use Prim.Native.Nat.{ℕ, ◌≤◌, ◌+◌, ◌-◌}
-use lib.ListN.{get_or, length, set, length-set}
-use Rattle.rows.proofs.Fill.{Filled, fill_none, fill_more}
-use Rattle.rows.proofs.Known.{rows16}
-use Rattle.rows.proofs.Sums.{zero_at}
-use Rattle.rows.proofs.Strips.{led_made}
-use borrow.Author.Rules.{rules}
-use native.Mathlib.Omega.{arith}
+use mathlib.Core.Path.{◌≡◌}
+use Prim.Native.Nat.{◌≤◌, ◌+◌, ◌-◌}
+use lib.ListN.{get_or, length}
+use Rattle.rows.proofs.Fill.{Filled}
 use Rattle.mask_steps.proofs.led.Given as goal
 
 abbrev pub invariant-loop-y : goal.invariant-loop-y

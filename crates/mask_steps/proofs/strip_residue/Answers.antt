@@ -1,4 +1,3 @@
-use borrow.Author.Rules.{rules}
 use Rattle.rows.specs.Leaves.{hold}
 use Rattle.mask_steps.proofs.strip_residue.Goals as goal
 

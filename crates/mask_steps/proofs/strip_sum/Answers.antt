@@ -1,4 +1,3 @@
-use borrow.Author.Rules.{rules}
 use Rattle.rows.specs.Leaves.{strip}
 use Rattle.mask_steps.proofs.strip_sum.Goals as goal
 

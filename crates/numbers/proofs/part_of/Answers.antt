@@ -1,5 +1,4 @@
 -- A refusal's part is empty. Else the slice that is found is not handed on, only its length and the image's number.
-use borrow.Author.Rules.{rules}
 use native.Mathlib.Omega.{arith}
 use mathlib.Core.Path.{◌≡◌, sym, ◌∙◌, ap, subst}
 use mathlib.Core.Bool.{true, false}

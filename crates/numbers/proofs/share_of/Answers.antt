@@ -3,7 +3,6 @@ use mir.Syntax.{w64}
 use mir.ValLaws.{to_z_pos}
 use mathlib.Core.Path.{ap, sym, ◌∙◌}
 use native.Mathlib.Omega.{arith}
-use borrow.Author.Rules.{rules}
 use Rattle.numbers.proofs.Signs.{negated_fits, negated_is}
 use Rattle.numbers.specs.Numbers.{quotient_of, remainder_of}
 use Rattle.numbers.proofs.share_of.Goals as goal
@@ -13,12 +12,12 @@ overflow_sub-result c = negated_fits c.in-Refused.g c.number.result c.number.ens
 
 pub returns-in-Exact : goal.returns-in-Exact
 returns-in-Exact c =
-    let k = c.a-1.given in
+    let k = c.in-Exact in
     let before = c.args.rest.now in
-    (to_z_pos w64 k.0.0 (omega arith) ∙ ap quotient_of (sym k.1), ap (λ a. remainder_of a before) (sym k.1))
+    (to_z_pos w64 k.quotient (omega arith) ∙ ap quotient_of (sym k.is), ap (λ a. remainder_of a before) (sym k.is))
 
 pub returns-in-Refused : goal.returns-in-Refused
 returns-in-Refused c =
-    let k = c.a-in-Refused-1.given in
+    let k = c.in-Refused in
     let before = c.args.rest.now in
-    (negated_is k.0.0 c.number.result c.number.ensures ∙ ap quotient_of (sym k.1), ap (λ a. remainder_of a before) (sym k.1))
+    (negated_is k.g c.number.result c.number.ensures ∙ ap quotient_of (sym k.is), ap (λ a. remainder_of a before) (sym k.is))

@@ -3,7 +3,6 @@ use mir.Syntax.{w64}
 use mir.ValLaws.{to_z_pos}
 use mathlib.Core.Path.{ap, sym, ◌∙◌}
 use native.Mathlib.Omega.{arith}
-use borrow.Author.Rules.{rules}
 use Rattle.numbers.proofs.Signs.{negated_fits, negated_is}
 use Rattle.numbers.specs.Numbers.{signed_of}
 use Rattle.numbers.proofs.signed.Goals as goal
@@ -16,5 +15,5 @@ returns-in-Done c = to_z_pos w64 c.in-Done.n (omega arith) ∙ ap signed_of (sym
 
 pub returns-in-Refused : goal.returns-in-Refused
 returns-in-Refused c =
-    let k = c.a-in-Refused-1.given in
-    negated_is k.0.0 c.number.result c.number.ensures ∙ ap signed_of (sym k.1)
+    let k = c.in-Refused in
+    negated_is k.g c.number.result c.number.ensures ∙ ap signed_of (sym k.is)

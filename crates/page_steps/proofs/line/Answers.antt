@@ -1,6 +1,5 @@
 -- Each digit at its place.
 use Rattle.planning.specs.Printer.{word_line}
-use borrow.Author.Rules.{rules}
 use Rattle.page_steps.proofs.line.Goals as goal
 
 pub returns : goal.returns

@@ -2,7 +2,6 @@
 use Prim.Native.Nat.{◌%◌}
 use Rattle.text.proofs.Pages.{refused_low, refused_high}
 use native.Mathlib.Omega.{arith}
-use borrow.Author.Rules.{rules}
 use Rattle.page_steps.proofs.refused_page.Goals as goal
 
 pub returns-then-n-lt10 : goal.returns-then-n-lt10

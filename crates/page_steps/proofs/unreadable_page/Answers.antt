@@ -1,7 +1,6 @@
 -- A blank page and the text.
 use Rattle.text.proofs.Pages.{page_of}
 use native.Mathlib.Omega.{arith}
-use borrow.Author.Rules.{rules}
 use Rattle.page_steps.proofs.unreadable_page.Goals as goal
 
 pub returns : goal.returns

@@ -2,7 +2,6 @@
 use mathlib.Core.Path.{refl}
 use Rattle.text.proofs.Pages.{added_byte, added_full}
 use native.Mathlib.Omega.{arith}
-use borrow.Author.Rules.{rules}
 use Rattle.page_steps.proofs.with_byte.Goals as goal
 
 pub returns-then-n-ge288 : goal.returns-then-n-ge288

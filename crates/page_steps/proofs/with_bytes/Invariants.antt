@@ -2,9 +2,6 @@
 use Prim.Native.Nat.{◌≤◌, ◌-◌}
 use lib.ListN.{length, take}
 use Rattle.text.specs.Page.{Added}
-use Rattle.text.proofs.Pages.{added_none, added_more, added_end}
-use borrow.Author.Rules.{rules}
-use native.Mathlib.Omega.{arith}
 use Rattle.page_steps.proofs.with_bytes.Given as goal
 
 abbrev pub invariant-loop-i : goal.invariant-loop-i

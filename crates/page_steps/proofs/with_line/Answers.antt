@@ -1,5 +1,4 @@
 -- The bytes added are those of the line.
-use borrow.Author.Rules.{rules}
 use Rattle.page_steps.proofs.with_line.Goals as goal
 
 pub returns : goal.returns

@@ -3,9 +3,6 @@ use Prim.Native.Nat.{◌≤◌, ◌-◌}
 use lib.ListN.{take}
 use Rattle.planning.specs.Printer.{word_lines}
 use Rattle.text.specs.Page.{Holds}
-use Rattle.text.proofs.Pages.{words_more, words_end, words_all}
-use borrow.Author.Rules.{rules}
-use native.Mathlib.Omega.{arith}
 use Rattle.page_steps.proofs.words_page.Given as goal
 
 abbrev pub invariant-loop-i : goal.invariant-loop-i

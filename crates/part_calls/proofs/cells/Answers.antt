@@ -1,5 +1,4 @@
 -- By the test of the sides, which keeps the product small.
-use borrow.Author.Rules.{rules}
 use native.Mathlib.Omega.{arith}
 use mathlib.Core.Path.{sym, ◌∙◌, ap}
 use mathlib.Core.Bool.{cond}

@@ -1,5 +1,4 @@
 -- By the parity.
-use borrow.Author.Rules.{rules}
 use Rattle.part_calls.proofs.Handed.{of_second, of_first}
 use Rattle.part_calls.proofs.part.Goals as goal
 

@@ -1,5 +1,4 @@
 -- By the image's length.
-use borrow.Author.Rules.{rules}
 use borrow.Author.Tests.{lt-ltb, le-ltb}
 use native.Mathlib.Nat.{sub-zero}
 use Rattle.part_calls.proofs.start.Goals as goal

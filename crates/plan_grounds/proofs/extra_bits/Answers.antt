@@ -1,5 +1,4 @@
 -- The head, the place, then the stages.
-use borrow.Author.Rules.{rules}
 use borrow.Author.Tests.{le-leb, lt-leb}
 use Rattle.plan_grounds.proofs.extra_bits.Goals as goal
 

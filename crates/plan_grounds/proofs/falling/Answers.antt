@@ -1,11 +1,7 @@
-use borrow.Author.Rules.{rules}
 use native.Mathlib.Omega.{arith}
-use mathlib.Core.Path.{◌≡◌, refl, sym, ◌∙◌}
-use Prim.Native.Nat.{◌-◌, ◌≤◌}
-use lib.ListN.{length, drop}
+use mathlib.Core.Path.{refl, sym, ◌∙◌}
 use borrow.Author.Tests.{lt-ltb, le-ltb}
 use Rattle.plan_grounds.specs.Leaves.{falls}
-use Rattle.plane.specs.Lists.{any_next}
 use Rattle.plane.proofs.Member.{next_hit, next_miss, next_end}
 use Rattle.plan_grounds.proofs.falling.Goals as goal
 

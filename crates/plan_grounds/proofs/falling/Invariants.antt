@@ -1,13 +1,9 @@
 -- The invariant: what is left to try from the mask before `i` on is what was left from the first stage on.
-use borrow.Author.Rules.{rules}
-use native.Mathlib.Omega.{arith}
-use mathlib.Core.Path.{◌≡◌, refl, sym, ◌∙◌}
+use mathlib.Core.Path.{◌≡◌}
 use Prim.Native.Nat.{◌-◌, ◌≤◌}
 use lib.ListN.{length, drop}
-use borrow.Author.Tests.{lt-ltb, le-ltb}
 use Rattle.plan_grounds.specs.Leaves.{falls}
 use Rattle.plane.specs.Lists.{any_next}
-use Rattle.plane.proofs.Member.{next_hit, next_miss, next_end}
 use Rattle.plan_grounds.proofs.falling.Given as goal
 
 abbrev pub invariant-loop-i : goal.invariant-loop-i

@@ -1,6 +1,5 @@
 -- The four tests in turn: `range_tried` has that they make ground 8.
 use native.Mathlib.Omega.{arith}
-use borrow.Author.Rules.{rules}
 use mathlib.Core.Path.{sym, ◌∙◌, ap}
 use mathlib.Core.Bool.{true, false}
 use Prim.Native.Nat.{◌+◌}

@@ -1,14 +1,11 @@
 -- The invariant: what is left to try from `i` on is what was left from the first stage on.
-use borrow.Author.Rules.{rules}
-use native.Mathlib.Omega.{arith}
-use mathlib.Core.Path.{◌≡◌, refl, sym, ◌∙◌, ap}
+use mathlib.Core.Path.{◌≡◌}
 use mathlib.Core.Bool.{not}
 use Prim.Native.Nat.{◌-◌}
 use lib.ListN.{length, drop}
 use Rattle.words.specs.Word.{stage_mask}
 use Rattle.masks.specs.Mask.{stage}
 use Rattle.plane.specs.Lists.{any}
-use Rattle.plane.proofs.Member.{any_hit, any_miss, any_end}
 use Rattle.plan_grounds.proofs.some_no_stage.Given as goal
 
 abbrev pub invariant-loop-i : goal.invariant-loop-i

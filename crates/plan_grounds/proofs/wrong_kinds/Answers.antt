@@ -1,5 +1,4 @@
 -- The head, the place, then the stages.
-use borrow.Author.Rules.{rules}
 use borrow.Author.Tests.{eq-eqb, ne_eqb}
 use Rattle.plan_grounds.proofs.wrong_kinds.Goals as goal
 

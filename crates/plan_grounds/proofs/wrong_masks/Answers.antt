@@ -1,5 +1,4 @@
 -- The two tests in turn, word by word.
-use borrow.Author.Rules.{rules}
 use mathlib.Core.Path.{sym, ◌∙◌}
 use mathlib.Core.Bool.{not}
 use lib.ListN.{drop}

@@ -1,5 +1,4 @@
 -- The two fields in turn.
-use borrow.Author.Rules.{rules}
 use borrow.Author.Tests.{lt-ltb, le-ltb}
 use Rattle.plan_grounds.proofs.wrong_place.Goals as goal
 

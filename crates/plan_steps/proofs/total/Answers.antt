@@ -1,10 +1,6 @@
-use borrow.Author.Rules.{rules}
 use native.Mathlib.Omega.{arith}
-use mathlib.Core.Path.{◌≡◌}
-use Prim.Native.Nat.{◌+◌, ◌*◌, ◌-◌, ◌≤◌}
-use lib.ListN.{length, get_or, drop}
+use lib.ListN.{get_or}
 use Rattle.words.specs.Word.{stage_mask}
-use Rattle.plan_steps.specs.Extent.{extent_of}
 use Rattle.stage_steps.proofs.Stages.{reach_small}
 use Rattle.plan_steps.proofs.Words.{extent_one, extent_none}
 use Rattle.plan_steps.proofs.total.Goals as goal

@@ -1,6 +1,5 @@
 -- Sides that pass are at most 240, so their product does not wrap; the live frame's length, then the kept one's.
 use native.Mathlib.Omega.{arith}
-use borrow.Author.Rules.{rules}
 use borrow.Author.Tests.{eq-eqb, ne_eqb}
 use mathlib.Core.Path.{sym, ◌∙◌, ap, subst}
 use mathlib.Core.Bool.{not}

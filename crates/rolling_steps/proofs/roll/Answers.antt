@@ -1,6 +1,5 @@
 -- A frame that is long enough has its rows moved up, and the row goes behind them.
 use native.Mathlib.Omega.{arith}
-use borrow.Author.Rules.{rules}
 use mathlib.Core.Path.{refl}
 use lib.ListN.{length}
 use Rattle.rolling_steps.proofs.Moving.{rolled_by}

@@ -1,5 +1,4 @@
 -- The chunk goes out and back.
-use borrow.Author.Rules.{rules}
 use Rattle.rolling_steps.proofs.Moving.{chunk_moved, chunk_long}
 use Rattle.rolling_steps.proofs.some.Goals as goal
 

@@ -1,9 +1,7 @@
 use native.Mathlib.Omega.{arith}
-use borrow.Author.Rules.{rules}
-use mathlib.Core.Path.{◌≡◌, sym, ◌∙◌, subst}
-use Prim.Native.Nat.{ℕ, ◌+◌, ◌-◌, ◌≤◌, zero-le}
-use lib.ListN.{length, get_or, length-replicate}
-use Rattle.ranges.specs.Ranges.{Ranged}
+use mathlib.Core.Path.{◌∙◌}
+use Prim.Native.Nat.{ℕ, ◌-◌, zero-le}
+use lib.ListN.{length, length-replicate}
 use Rattle.ranges.proofs.Ranges.{ranged_none}
 use Rattle.rolling_steps.proofs.Moving.{more_moved, all_moved}
 use Rattle.rolling_steps.proofs.up.Goals as goal
@@ -21,7 +19,7 @@ loop-p-preserved c =
     let l = c.loop-p in
     let w = c.args.w in
     let s = c.some.ensures in
-    (omega arith, s.1 ∙ l.invariant.1, more_moved 2048 w l.invariant.2 s.0)
+    (omega arith, s.long ∙ l.invariant.1, more_moved 2048 w l.invariant.2 s.moved)
 
 pub some-requires-2 : goal.some-requires-2
 some-requires-2 c =

@@ -1,12 +1,8 @@
 -- Chunk after chunk; what is read is past what was written.
-use native.Mathlib.Omega.{arith}
-use borrow.Author.Rules.{rules}
-use mathlib.Core.Path.{◌≡◌, sym, ◌∙◌, subst}
-use Prim.Native.Nat.{ℕ, ◌+◌, ◌-◌, ◌≤◌, zero-le}
-use lib.ListN.{length, get_or, length-replicate}
+use mathlib.Core.Path.{◌≡◌}
+use Prim.Native.Nat.{◌+◌, ◌-◌, ◌≤◌}
+use lib.ListN.{length, get_or}
 use Rattle.ranges.specs.Ranges.{Ranged}
-use Rattle.ranges.proofs.Ranges.{ranged_none}
-use Rattle.rolling_steps.proofs.Moving.{more_moved, all_moved}
 use Rattle.rolling_steps.proofs.up.Given as goal
 
 abbrev pub invariant-loop-p : goal.invariant-loop-p

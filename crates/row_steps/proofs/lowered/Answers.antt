@@ -1,5 +1,4 @@
 -- What stays of the whole window under a, moved by (i, j), is a moved by (−i, −j); a move past the window leaves nothing.
-use borrow.Author.Rules.{rules}
 use mathlib.Core.Logic.{inl, inr}
 use Rattle.rows.proofs.Known.{rows16}
 use Rattle.rows.proofs.Joins.{under_lowered, lowered_out}

@@ -1,8 +1,5 @@
 use borrow.Author.Rules.{rules}
 use native.Mathlib.Omega.{arith}
-use mathlib.Core.Path.{◌≡◌}
-use Prim.Native.Nat.{ℕ, ◌≤◌, ◌<◌, ◌-◌}
-use lib.ListN.{get_or}
 use mathlib.Core.Bool.{true≢false, false≢true}
 use borrow.Author.Count.{below_more}
 use Rattle.rows.proofs.Sums.{rows_differ, rows_same}

@@ -1,13 +1,7 @@
 -- The invariant: the rows before i are equal. The measure: the rows left. Rows have the same cells exactly when their words are equal.
-use borrow.Author.Rules.{rules}
-use native.Mathlib.Omega.{arith}
 use mathlib.Core.Path.{◌≡◌}
 use Prim.Native.Nat.{ℕ, ◌≤◌, ◌<◌, ◌-◌}
 use lib.ListN.{get_or}
-use mathlib.Core.Bool.{true≢false, false≢true}
-use borrow.Author.Count.{below_more}
-use Rattle.rows.proofs.Sums.{rows_differ, rows_same}
-use Rattle.rows.proofs.Known.{rows16}
 use Rattle.row_steps.proofs.same.Given as goal
 
 abbrev pub invariant-loop-i : goal.invariant-loop-i

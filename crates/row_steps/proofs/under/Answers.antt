@@ -1,12 +1,11 @@
-use borrow.Author.Rules.{rules}
 use native.Mathlib.Omega.{arith}
 use mathlib.Core.Path.{◌≡◌, refl, ap, subst}
-use mathlib.Core.Logic.{⊎_elim}
-use Prim.Native.Nat.{ℕ, ◌≤◌, ◌-◌, ◌+◌, ◌/◌, ◌^◌}
+use Prim.Native.Nat.{ℕ, ◌+◌, ◌/◌, ◌^◌}
 use lib.Bits.{bit_and}
 use lib.ListN.{get_or, length}
 use Rattle.rows.proofs.Fill.{Filled, fill_none, fill_set}
 use Rattle.rows.proofs.Shifts.{anded, and_out, was, under_made}
+use Rattle.row_steps.proofs.under.Goals.{then-y-j-lt16, else-y-j-lt16}
 use Rattle.row_steps.proofs.under.Goals as goal
 
 pub loop-y-init : goal.loop-y-init
@@ -23,10 +22,10 @@ loop-y-preserved c =
     let cut = ap (λ (n : ℕ). bit_and n (get_or st.args.t (y + st.args.j) 0 / 2 ^ st.args.i)) e in
     let out = and_out st.args.z st.args.t st.args.i st.args.j y in (
       omega arith,
-      ⊎_elim
-          (λ w. fill_set f (was st.args.z) 0 y 16 _ _ _ w.1 inv.1.0 (omega arith) (omega arith) cut inv.1.1)
-          (λ w. fill_set f (was st.args.z) 0 y 16 _ _ _ w.1 inv.1.0 (omega arith) (omega arith) (out (omega (arith, w.0.left))) inv.1.1)
-          c.if-y-j-lt16.branch,
+      elim c.if-y-j-lt16.branch [
+        | then-y-j-lt16 w ↦ fill_set f (was st.args.z) 0 y 16 _ _ _ w.r-is inv.1.0 (omega arith) (omega arith) cut inv.1.1
+        | else-y-j-lt16 w ↦ fill_set f (was st.args.z) 0 y 16 _ _ _ w.r-is inv.1.0 (omega arith) (omega arith) (out (omega (arith, w.if-y-j-lt16.false))) inv.1.1
+      ],
     )
 
 pub returns : goal.returns

@@ -1,6 +1,5 @@
 -- Bit i is the last bit of a shifted by i.
 use borrow.Author.Tests.{eqb-true, eqb-false}
-use borrow.Author.Rules.{rules}
 use Rattle.row_sum_steps.proofs.has.Goals as goal
 
 pub returns : goal.returns

@@ -1,5 +1,4 @@
 -- b put onto a, unmoved, has the cells of both.
-use borrow.Author.Rules.{rules}
 use Rattle.rows.proofs.Known.{rows16}
 use Rattle.rows.proofs.Joins.{onto_joined}
 use Rattle.row_sum_steps.proofs.joined.Goals as goal

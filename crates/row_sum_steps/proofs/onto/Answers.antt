@@ -1,9 +1,8 @@
-use borrow.Author.Rules.{rules}
 use native.Mathlib.Omega.{arith}
 use mathlib.Core.Path.{◌≡◌, refl, ap, subst}
-use Prim.Native.Nat.{ℕ, ◌≤◌, ◌-◌, ◌*◌, ◌^◌, ◌%◌}
+use Prim.Native.Nat.{ℕ, ◌-◌, ◌*◌, ◌^◌, ◌%◌}
 use lib.Bits.{bit_or}
-use lib.ListN.{get_or, length, length-set}
+use lib.ListN.{get_or, length-set}
 use Rattle.rows.proofs.Fill.{Filled, fill_none, fill_more}
 use Rattle.rows.proofs.Shifts.{ored, was, onto_made}
 use Rattle.row_sum_steps.proofs.onto.Goals as goal

@@ -1,12 +1,9 @@
 -- The invariant: the rows passed, from j to y, have the moved row of a or'ed in, and the others are as they were. The measure: the rows left.
-use borrow.Author.Rules.{rules}
-use native.Mathlib.Omega.{arith}
-use mathlib.Core.Path.{◌≡◌, refl, ap, subst}
-use Prim.Native.Nat.{ℕ, ◌≤◌, ◌-◌, ◌*◌, ◌^◌, ◌%◌}
-use lib.Bits.{bit_or}
-use lib.ListN.{get_or, length, length-set}
-use Rattle.rows.proofs.Fill.{Filled, fill_none, fill_more}
-use Rattle.rows.proofs.Shifts.{ored, was, onto_made}
+use mathlib.Core.Path.{◌≡◌}
+use Prim.Native.Nat.{◌≤◌, ◌-◌}
+use lib.ListN.{length}
+use Rattle.rows.proofs.Fill.{Filled}
+use Rattle.rows.proofs.Shifts.{ored, was}
 use Rattle.row_sum_steps.proofs.onto.Given as goal
 
 abbrev pub invariant-loop-y : goal.invariant-loop-y

@@ -1,5 +1,4 @@
 -- a put onto no cell, moved by (i, j), is a moved by (i, j); a move past the window leaves nothing.
-use borrow.Author.Rules.{rules}
 use mathlib.Core.Logic.{inl, inr}
 use Rattle.rows.proofs.Joins.{onto_raised, raised_out}
 use Rattle.row_sum_steps.proofs.raised.Goals as goal

@@ -1,11 +1,10 @@
-use borrow.Author.Rules.{rules}
 use native.Mathlib.Omega.{arith}
 use mathlib.Core.Path.{◌≡◌, sym, subst}
-use mathlib.Core.Logic.{⊎_elim}
 use mathlib.Core.List.{List}
-use Prim.Native.Nat.{ℕ, ◌≤◌, ◌-◌, ◌+◌}
+use Prim.Native.Nat.{ℕ, ◌+◌}
 use Rattle.rows.specs.Leaves.{RowSum}
 use Rattle.rows.proofs.Sums.{row_sum_none, row_sum_on, row_sum_off, row_sum_end}
+use Rattle.row_sum_steps.proofs.row_sum.Goals.{then-has, else-has}
 use Rattle.row_sum_steps.proofs.row_sum.Goals as goal
 
 pub loop-i-init : goal.loop-i-init
@@ -22,10 +21,10 @@ loop-i-preserved c =
     let h = c in
     let P : List ℕ → Type 0 = RowSum st.args.z st.args.a st.args.b st.args.j (h.loop-i.i + 1) in (
       omega arith,
-      ⊎_elim
-          (λ w. subst P (sym w.2) (row_sum_on _ _ _ _ _ _ _ h.loop-i.invariant.1 (c.has.ensures.yes w.0.taken) w.1.ensures))
-          (λ w. subst P (sym w.1) (row_sum_off _ _ _ _ _ _ h.loop-i.invariant.1 (c.has.ensures.no w.0.left)))
-          c.if-has.branch,
+      elim c.if-has.branch [
+        | then-has w ↦ subst P (sym w.r-is) (row_sum_on _ _ _ _ _ _ _ h.loop-i.invariant.1 (c.has.ensures.yes w.if-has.true) w.onto-next.ensures)
+        | else-has w ↦ subst P (sym w.r-is) (row_sum_off _ _ _ _ _ _ h.loop-i.invariant.1 (c.has.ensures.no w.if-has.false))
+      ],
     )
 
 pub returns : goal.returns

@@ -1,12 +1,6 @@
 -- The invariant: r is z with a put onto it for each bit of b before i. The measure: the bits left.
-use borrow.Author.Rules.{rules}
-use native.Mathlib.Omega.{arith}
-use mathlib.Core.Path.{◌≡◌, sym, subst}
-use mathlib.Core.Logic.{⊎_elim}
-use mathlib.Core.List.{List}
-use Prim.Native.Nat.{ℕ, ◌≤◌, ◌-◌, ◌+◌}
+use Prim.Native.Nat.{◌≤◌, ◌-◌}
 use Rattle.rows.specs.Leaves.{RowSum}
-use Rattle.rows.proofs.Sums.{row_sum_none, row_sum_on, row_sum_off, row_sum_end}
 use Rattle.row_sum_steps.proofs.row_sum.Given as goal
 
 abbrev pub invariant-loop-i : goal.invariant-loop-i

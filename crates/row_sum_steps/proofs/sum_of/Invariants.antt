@@ -1,12 +1,6 @@
 -- The invariant: r is the sum of a and the rows of b before j. A row without a cell changes nothing. The measure: the rows left.
-use borrow.Author.Rules.{rules}
-use native.Mathlib.Omega.{arith}
-use mathlib.Core.Path.{◌≡◌, sym, subst}
-use mathlib.Core.Logic.{⊎_elim}
-use Prim.Native.Nat.{ℕ, ◌≤◌, ◌+◌, ◌-◌}
+use Prim.Native.Nat.{◌≤◌, ◌-◌}
 use Rattle.rows.specs.Leaves.{SumTo}
-use Rattle.rows.proofs.Known.{rows16}
-use Rattle.rows.proofs.Sums.{sum_none, sum_more, sum_skip, sum_done}
 use Rattle.row_sum_steps.proofs.sum_of.Given as goal
 
 abbrev pub invariant-loop-j : goal.invariant-loop-j

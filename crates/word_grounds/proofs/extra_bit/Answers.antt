@@ -1,11 +1,7 @@
-use borrow.Author.Rules.{rules}
 use native.Mathlib.Omega.{arith}
-use mathlib.Core.Path.{◌≡◌, refl, sym, ◌∙◌}
-use Prim.Native.Nat.{◌-◌}
-use lib.ListN.{length, drop}
+use mathlib.Core.Path.{refl, sym, ◌∙◌}
 use borrow.Author.Tests.{le-leb, lt-leb}
 use Rattle.word_grounds.specs.Leaves.{reaches}
-use Rattle.plane.specs.Lists.{any}
 use Rattle.plane.proofs.Member.{any_hit, any_miss, any_end}
 use Rattle.word_grounds.proofs.extra_bit.Goals as goal
 

@@ -1,13 +1,9 @@
 -- The invariant: what is left to try from `i` on is what was left from `start` on. The measure is the number of words left.
-use borrow.Author.Rules.{rules}
-use native.Mathlib.Omega.{arith}
-use mathlib.Core.Path.{◌≡◌, refl, sym, ◌∙◌}
+use mathlib.Core.Path.{◌≡◌}
 use Prim.Native.Nat.{◌-◌}
 use lib.ListN.{length, drop}
-use borrow.Author.Tests.{le-leb, lt-leb}
 use Rattle.word_grounds.specs.Leaves.{reaches}
 use Rattle.plane.specs.Lists.{any}
-use Rattle.plane.proofs.Member.{any_hit, any_miss, any_end}
 use Rattle.word_grounds.proofs.extra_bit.Given as goal
 
 abbrev pub invariant-loop-i : goal.invariant-loop-i

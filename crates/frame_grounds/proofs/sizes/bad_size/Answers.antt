@@ -1,5 +1,4 @@
 -- One side, then the other.
-use borrow.Author.Rules.{rules}
 use mathlib.Core.Path.{sym, ◌∙◌}
 use Rattle.plane.proofs.Tests.{or_first, or_rest}
 use Rattle.grids.specs.Frame.{bad_side}

@@ -1,5 +1,4 @@
 -- Sides that pass are at most 240, so nothing wraps.
-use borrow.Author.Rules.{rules}
 use native.Mathlib.Omega.{arith}
 use Rattle.frame_grounds.proofs.Sides.{sides, small_grid}
 use Rattle.frame_grounds.proofs.sizes.grid_size.Goals as goal

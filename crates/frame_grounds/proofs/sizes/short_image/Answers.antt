@@ -1,5 +1,4 @@
 -- The test, with the grid's size.
-use borrow.Author.Rules.{rules}
 use mathlib.Core.Path.{sym, ◌∙◌, ap, subst}
 use lib.Dec.{T, ltb}
 use lib.ListN.{length}

@@ -1,5 +1,4 @@
 -- Sides that pass are at most 240, so their product does not wrap.
-use borrow.Author.Rules.{rules}
 use mathlib.Core.Path.{refl, sym, ◌∙◌, subst}
 use lib.Dec.{T}
 use native.Mathlib.Omega.{arith}

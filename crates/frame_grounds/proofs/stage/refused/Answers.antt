@@ -1,5 +1,4 @@
 -- Each ground in turn, one test more.
-use borrow.Author.Rules.{rules}
 use mathlib.Core.Path.{refl, ap}
 use mathlib.Core.Bool.{not}
 use lib.ListN.{take}

@@ -1,7 +1,7 @@
-use Rattle.std.proofs.Common.{◌≡◌, ℕ, ◌-◌, ◌<◌, ◌≤◌, get_or, refl, arith, rules, eqb-true}
+use Rattle.std.proofs.Common.{◌≤◌, get_or, refl, arith, eqb-true}
 use mathlib.Core.Bool.{false≢true}
 use borrow.Author.Tests.{eqb-false}
-use Rattle.completions.specs.Completing.{number_in, Fit}
+use Rattle.completions.specs.Completing.{number_in}
 use Rattle.completions.proofs.Loops.{upto}
 use Rattle.pool_steps.proofs.numbers.fits.Goals as goal
 

@@ -1,9 +1,6 @@
 -- The invariant: the greatest excess so far is 0 exactly where the numbers before i are at most what is needed. The measure: the numbers left.
-use Rattle.std.proofs.Common.{◌≡◌, ℕ, ◌-◌, ◌<◌, ◌≤◌, get_or, refl, arith, rules, eqb-true}
-use mathlib.Core.Bool.{false≢true}
-use borrow.Author.Tests.{eqb-false}
+use Rattle.std.proofs.Common.{◌≡◌, ℕ, ◌-◌, ◌<◌, ◌≤◌, get_or}
 use Rattle.completions.specs.Completing.{number_in, Fit}
-use Rattle.completions.proofs.Loops.{upto}
 use Rattle.pool_steps.proofs.numbers.fits.Given as goal
 
 abbrev pub invariant-loop-i : goal.invariant-loop-i

@@ -1,4 +1,4 @@
-use Rattle.std.proofs.Common.{◌≡◌, ℕ, ◌-◌, ◌<◌, ◌≤◌, length, get_or, set, refl, ◌∙◌, arith, length-set, get_or-set_other, get_or-set_same, rules}
+use Rattle.std.proofs.Common.{◌≡◌, ◌-◌, get_or, set, refl, ◌∙◌, arith, length-set, get_or-set_other, get_or-set_same}
 use Rattle.completions.specs.Completing.{number_in}
 use Rattle.completions.proofs.Loops.{upto}
 use Rattle.pool_steps.proofs.numbers.less.Goals as goal

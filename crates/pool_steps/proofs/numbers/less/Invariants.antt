@@ -1,7 +1,6 @@
 -- The invariant: the numbers before i are less, and the others as they were. The measure: the numbers left.
-use Rattle.std.proofs.Common.{◌≡◌, ℕ, ◌-◌, ◌<◌, ◌≤◌, length, get_or, set, refl, ◌∙◌, arith, length-set, get_or-set_other, get_or-set_same, rules}
+use Rattle.std.proofs.Common.{◌≡◌, ℕ, ◌-◌, ◌<◌, ◌≤◌, length, get_or}
 use Rattle.completions.specs.Completing.{number_in}
-use Rattle.completions.proofs.Loops.{upto}
 use Rattle.pool_steps.proofs.numbers.less.Given as goal
 
 abbrev pub invariant-loop-i : goal.invariant-loop-i

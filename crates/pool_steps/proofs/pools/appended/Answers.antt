@@ -1,6 +1,6 @@
-use Rattle.std.proofs.Common.{◌≡◌, ◌-◌, ◌≤◌, length, inl, inr, ⊎_elim, arith, rules}
+use Rattle.std.proofs.Common.{inl, inr, ⊎_elim, arith}
 use Rattle.completions.proofs.Loops.{among_more}
-use Rattle.completions.proofs.Drawing.{AppendedTo, appended_none, appended_more}
+use Rattle.completions.proofs.Drawing.{appended_none, appended_more}
 use Rattle.pool_steps.proofs.pools.appended.Goals as goal
 
 pub loop-t-init : goal.loop-t-init

@@ -1,7 +1,6 @@
 -- The invariant: the first t of the other list stand behind the first p. The measure: those left.
-use Rattle.std.proofs.Common.{◌≡◌, ◌-◌, ◌≤◌, length, inl, inr, ⊎_elim, arith, rules}
-use Rattle.completions.proofs.Loops.{among_more}
-use Rattle.completions.proofs.Drawing.{AppendedTo, appended_none, appended_more}
+use Rattle.std.proofs.Common.{◌≡◌, ◌-◌, ◌≤◌, length}
+use Rattle.completions.proofs.Drawing.{AppendedTo}
 use Rattle.pool_steps.proofs.pools.appended.Given as goal
 
 abbrev pub invariant-loop-t : goal.invariant-loop-t

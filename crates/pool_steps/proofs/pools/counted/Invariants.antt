@@ -1,6 +1,5 @@
 -- The invariant: the counts keep their length. The measure: the numbers left.
-use Rattle.std.proofs.Common.{◌≡◌, ◌-◌, ◌≤◌, length, rules}
-use Rattle.std.proofs.num.wrapping_add_u16.Reads as wrapping-add-u16-reads
+use Rattle.std.proofs.Common.{◌≡◌, ◌-◌, ◌≤◌, length}
 use Rattle.pool_steps.proofs.pools.counted.Given as goal
 
 abbrev pub invariant-loop-i : goal.invariant-loop-i

@@ -1,5 +1,5 @@
 -- The candidates that fit, a number that is needed, and the division by it.
-use Rattle.std.proofs.Common.{arith, rules}
+use Rattle.std.proofs.Common.{arith}
 use Rattle.completions.proofs.Drawing.{divided_none, divided_by}
 use Rattle.pool_steps.proofs.pools.divided.Goals as goal
 

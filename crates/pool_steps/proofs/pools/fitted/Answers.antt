@@ -1,5 +1,5 @@
-use Rattle.std.proofs.Common.{◌-◌, ◌≤◌, length, refl, arith, rules}
-use Rattle.completions.proofs.Drawing.{FittedTo, fitted_none, fitted_more}
+use Rattle.std.proofs.Common.{refl, arith}
+use Rattle.completions.proofs.Drawing.{fitted_none, fitted_more}
 use Rattle.completions.proofs.Loops.{among_more}
 use Rattle.pool_steps.proofs.pools.fitted.Goals as goal
 

@@ -1,7 +1,6 @@
 -- The invariant: of the masks before j those that fit are the first n of the list. The measure: the masks left.
-use Rattle.std.proofs.Common.{◌-◌, ◌≤◌, length, refl, arith, rules}
-use Rattle.completions.proofs.Drawing.{FittedTo, fitted_none, fitted_more}
-use Rattle.completions.proofs.Loops.{among_more}
+use Rattle.std.proofs.Common.{◌-◌, ◌≤◌, length}
+use Rattle.completions.proofs.Drawing.{FittedTo}
 use Rattle.pool_steps.proofs.pools.fitted.Given as goal
 
 abbrev pub invariant-loop-j : goal.invariant-loop-j

@@ -1,6 +1,5 @@
 -- The invariant: the best so far is needed, or it is 18 and none before i is needed. The measure: the numbers left.
-use Rattle.std.proofs.Common.{◌≡◌, ℕ, ◌+◌, ◌-◌, ◌<◌, ◌≤◌, get_or, sym, subst, ⊎_elim, arith, rules, eq-eqb}
-use Rattle.completions.proofs.Loops.{upto}
+use Rattle.std.proofs.Common.{◌≡◌, ℕ, ◌-◌, ◌<◌, ◌≤◌, get_or}
 use Rattle.pool_steps.proofs.pools.scarce.Given as goal
 
 abbrev pub invariant-loop-i : goal.invariant-loop-i

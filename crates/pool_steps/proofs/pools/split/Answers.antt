@@ -1,6 +1,6 @@
-use Rattle.std.proofs.Common.{◌≡◌, ◌+◌, ◌-◌, ◌≤◌, length, refl, ⊎_elim, arith, rules}
+use Rattle.std.proofs.Common.{refl, ⊎_elim, arith}
 use Rattle.completions.proofs.Loops.{among_more}
-use Rattle.completions.proofs.Drawing.{SplitTo, split_none, split_more, behind_is}
+use Rattle.completions.proofs.Drawing.{split_none, split_more, behind_is}
 use Rattle.pool_steps.proofs.pools.split.Goals as goal
 
 pub loop-j-init : goal.loop-j-init
@@ -27,7 +27,7 @@ returns c = λ w.
       all = λ m b a. among_more _ _ _ m (omega arith) (⊎_elim (k.first m) (k.behind m) (h.all m b (among_more _ _ _ m (omega arith) a)));
       only = λ m a. among_more _ _ _ m (omega arith) (h.only m (k.only m (among_more _ _ _ m (omega arith) a)));
       without = λ m b a. h.without m b (k.back m a);
-      having = λ j l b. h.having _ (behind_is c.appended.new.0 _ _ _ j k.after l (omega arith));
+      having = λ j l b. h.having _ (behind_is c.appended.new.list _ _ _ j k.after l (omega arith));
       order = omega arith;
       long = k.long;
     }

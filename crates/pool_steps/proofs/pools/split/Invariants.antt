@@ -1,7 +1,6 @@
 -- The invariant: of the masks before j those without the number are in the one list and those with it in the other. The measure: the masks left.
-use Rattle.std.proofs.Common.{◌≡◌, ◌+◌, ◌-◌, ◌≤◌, length, refl, ⊎_elim, arith, rules}
-use Rattle.completions.proofs.Loops.{among_more}
-use Rattle.completions.proofs.Drawing.{SplitTo, split_none, split_more, behind_is}
+use Rattle.std.proofs.Common.{◌≡◌, ◌+◌, ◌-◌, ◌≤◌, length}
+use Rattle.completions.proofs.Drawing.{SplitTo}
 use Rattle.pool_steps.proofs.pools.split.Given as goal
 
 abbrev pub invariant-loop-j : goal.invariant-loop-j

@@ -1,5 +1,5 @@
 -- The measure: the masks left.
-use Rattle.std.proofs.Common.{◌-◌, ◌≤◌, rules}
+use Rattle.std.proofs.Common.{◌-◌, ◌≤◌}
 use Rattle.pool_steps.proofs.pools.tally.Given as goal
 
 abbrev pub invariant-loop-j : goal.invariant-loop-j

@@ -8,32 +8,29 @@ use Rattle.result_steps.proofs.Behind.{second_starts, second_able, second_ends}
 use borrow.Author.Rules.{rules}
 use Rattle.result_steps.proofs.levels.second_stages.Goals as goal
 
--- the parts where the first planes end
-at : (c : goal.After-plane_bytes-o) → c.plane_bytes-o.result ≡ plane_size (c.args.w + 15) (c.args.h + 15)
-at c = plane_is c.args.w c.args.h c.requires.1.sides c.plane_bytes-o.ensures
-
-starts : (c : goal.After-plane_bytes-o) → let a = c.args in
-    (c.plane_bytes-o.result ≤ length a.first.now) × (c.plane_bytes-o.result ≤ length a.second.now)
-starts c =
-    let a = c.args in second_starts a.op a.plan.now a.w a.h a.first.now a.second.now c.requires.1 (at c)
-
 pub slice_bounds-stages-count : goal.slice_bounds-stages-count
-slice_bounds-stages-count c = (starts c).0
+slice_bounds-stages-count c =
+    let a = c.args in
+    (second_starts a.op a.plan.now a.w a.h a.first.now a.second.now c.requires.1 (plane_is c.args.w c.args.h c.requires.1.sides c.plane_bytes-o.ensures)).0
 
 pub slice_bounds-stages-start : goal.slice_bounds-stages-start
-slice_bounds-stages-start c = (starts c).0
+slice_bounds-stages-start c =
+    let a = c.args in
+    (second_starts a.op a.plan.now a.w a.h a.first.now a.second.now c.requires.1 (plane_is c.args.w c.args.h c.requires.1.sides c.plane_bytes-o.ensures)).0
 
 pub slice_bounds-stages-count-2 : goal.slice_bounds-stages-count-2
-slice_bounds-stages-count-2 c = (starts c).1
+slice_bounds-stages-count-2 c =
+    let a = c.args in
+    (second_starts a.op a.plan.now a.w a.h a.first.now a.second.now c.requires.1 (plane_is c.args.w c.args.h c.requires.1.sides c.plane_bytes-o.ensures)).1
 
 pub slice_bounds-stages-start-2 : goal.slice_bounds-stages-start-2
-slice_bounds-stages-start-2 c = (starts c).1
+slice_bounds-stages-start-2 c =
+    let a = c.args in
+    (second_starts a.op a.plan.now a.w a.h a.first.now a.second.now c.requires.1 (plane_is c.args.w c.args.h c.requires.1.sides c.plane_bytes-o.ensures)).1
 
 pub returns : goal.returns
 returns c =
-    let p = c in
-    let st = p in
-    let a = st.args in
-    let e = c.stages.ensures.through
-    (second_able a.op a.plan.now a.w a.h a.first.now a.second.now st.pre.1 (at p) st.pre.0) in
-    second_ends a.op a.plan.now a.w a.h a.first.now a.second.now st.pre.1 (at p) e
+    let a = c.args in
+    let at = plane_is c.args.w c.args.h c.requires.1.sides c.plane_bytes-o.ensures in
+    let e = c.stages.ensures.through (second_able a.op a.plan.now a.w a.h a.first.now a.second.now c.requires.1 at c.requires.0) in
+    second_ends a.op a.plan.now a.w a.h a.first.now a.second.now c.requires.1 at e

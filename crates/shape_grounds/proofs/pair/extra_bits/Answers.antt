@@ -1,5 +1,4 @@
 -- The first list, then the second.
-use borrow.Author.Rules.{rules}
 use mathlib.Core.Path.{sym, ◌∙◌}
 use Rattle.plane.proofs.Tests.{or_first, or_rest}
 use Rattle.shapes.specs.Shape.{wrong_shape_bits}

@@ -1,12 +1,9 @@
-use borrow.Author.Rules.{rules}
 use native.Mathlib.Omega.{arith}
-use mathlib.Core.Path.{◌≡◌, refl, sym, ◌∙◌}
-use Prim.Native.Nat.{◌-◌}
-use lib.ListN.{length, get_or, drop}
+use mathlib.Core.Path.{refl, sym, ◌∙◌}
+use lib.ListN.{get_or}
 use borrow.Author.Tests.{eq-eqb, ne_eqb}
 use Rattle.plane.proofs.Bits.{no_bits}
 use Rattle.shapes.specs.Shape.{empty_row}
-use Rattle.plane.specs.Lists.{any}
 use Rattle.plane.proofs.Member.{any_hit, any_miss, any_end}
 use Rattle.shape_grounds.proofs.shape.empty_row.Goals as goal
 

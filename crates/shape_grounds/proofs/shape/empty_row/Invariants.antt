@@ -1,14 +1,9 @@
 -- The invariant: what is left to try from `i` on is what was left from the first row on. A row has no column where its lowest 16 bits make 0.
-use borrow.Author.Rules.{rules}
-use native.Mathlib.Omega.{arith}
-use mathlib.Core.Path.{◌≡◌, refl, sym, ◌∙◌}
+use mathlib.Core.Path.{◌≡◌}
 use Prim.Native.Nat.{◌-◌}
-use lib.ListN.{length, get_or, drop}
-use borrow.Author.Tests.{eq-eqb, ne_eqb}
-use Rattle.plane.proofs.Bits.{no_bits}
+use lib.ListN.{length, drop}
 use Rattle.shapes.specs.Shape.{empty_row}
 use Rattle.plane.specs.Lists.{any}
-use Rattle.plane.proofs.Member.{any_hit, any_miss, any_end}
 use Rattle.shape_grounds.proofs.shape.empty_row.Given as goal
 
 abbrev pub invariant-loop-i : goal.invariant-loop-i

@@ -1,5 +1,4 @@
 -- The anchor, then the rows.
-use borrow.Author.Rules.{rules}
 use borrow.Author.Tests.{le-leb, lt-leb}
 use Rattle.shape_grounds.proofs.shape.extra_bits.Goals as goal
 

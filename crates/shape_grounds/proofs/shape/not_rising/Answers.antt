@@ -1,11 +1,7 @@
-use borrow.Author.Rules.{rules}
 use native.Mathlib.Omega.{arith}
-use mathlib.Core.Path.{◌≡◌, refl, sym, ◌∙◌}
-use Prim.Native.Nat.{◌-◌, ◌≤◌}
-use lib.ListN.{length, drop}
+use mathlib.Core.Path.{refl, sym, ◌∙◌}
 use borrow.Author.Tests.{le-leb, lt-leb}
 use Rattle.shapes.specs.Shape.{not_rising}
-use Rattle.plane.specs.Lists.{any_next}
 use Rattle.plane.proofs.Member.{next_hit, next_miss, next_end}
 use Rattle.shape_grounds.proofs.shape.not_rising.Goals as goal
 

@@ -1,13 +1,9 @@
 -- The invariant: what is left to try from the row before `i` on is what was left from the first row on.
-use borrow.Author.Rules.{rules}
-use native.Mathlib.Omega.{arith}
-use mathlib.Core.Path.{◌≡◌, refl, sym, ◌∙◌}
+use mathlib.Core.Path.{◌≡◌}
 use Prim.Native.Nat.{◌-◌, ◌≤◌}
 use lib.ListN.{length, drop}
-use borrow.Author.Tests.{le-leb, lt-leb}
 use Rattle.shapes.specs.Shape.{not_rising}
 use Rattle.plane.specs.Lists.{any_next}
-use Rattle.plane.proofs.Member.{next_hit, next_miss, next_end}
 use Rattle.shape_grounds.proofs.shape.not_rising.Given as goal
 
 abbrev pub invariant-loop-i : goal.invariant-loop-i

@@ -1,5 +1,4 @@
 -- The anchor, then the rows.
-use borrow.Author.Rules.{rules}
 use borrow.Author.Tests.{eq-eqb, ne_eqb}
 use Rattle.shape_grounds.proofs.shape.wrong_kinds.Goals as goal
 

@@ -1,5 +1,4 @@
 -- The two tests in turn.
-use borrow.Author.Rules.{rules}
 use mathlib.Core.Path.{sym, ◌∙◌}
 use lib.ListN.{drop}
 use Rattle.plane.specs.Lists.{any, any_next}

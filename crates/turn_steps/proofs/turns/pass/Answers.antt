@@ -1,7 +1,4 @@
-use Prim.Native.Nat.{◌-◌, ◌≤◌}
-use lib.ListN.{length}
-use Rattle.turn_steps.proofs.Alternating.{Midway, midway_start, midway_more, midway_end, room_past}
-use borrow.Author.Rules.{rules}
+use Rattle.turn_steps.proofs.Alternating.{midway_start, midway_more, midway_end, room_past}
 use native.Mathlib.Omega.{arith}
 use Rattle.turn_steps.proofs.turns.pass.Goals as goal
 

@@ -1,9 +1,7 @@
 -- The invariant: the stages before word k were run, and those that are left take the grid that is shown to the last one. The measure is the words left.
 use Prim.Native.Nat.{◌-◌, ◌≤◌}
 use lib.ListN.{length}
-use Rattle.turn_steps.proofs.Alternating.{Midway, midway_start, midway_more, midway_end, room_past}
-use borrow.Author.Rules.{rules}
-use native.Mathlib.Omega.{arith}
+use Rattle.turn_steps.proofs.Alternating.{Midway}
 use Rattle.turn_steps.proofs.turns.pass.Given as goal
 
 abbrev pub invariant-loop-k : goal.invariant-loop-k

@@ -1,5 +1,4 @@
 -- Each arm of the match is one operation: its passes, in order.
-use borrow.Author.Rules.{rules}
 use Prim.Native.Nat.{zero-le}
 use Rattle.turn_steps.proofs.Alternating.{room_past}
 use Rattle.turn_steps.proofs.Ending.{most, dilation_ends, erosion_ends, opening_ends, closing_ends}

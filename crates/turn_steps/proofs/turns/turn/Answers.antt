@@ -1,6 +1,5 @@
 -- A turn is the single stage on planes, from one image into the other; a plane takes no more bytes than its grid.
 use Rattle.turn_steps.proofs.Alternating.{room_stage, from_first, from_second}
-use borrow.Author.Rules.{rules}
 use Rattle.turn_steps.proofs.turns.turn.Goals as goal
 
 pub returns-then-t-eq0 : goal.returns-then-t-eq0
