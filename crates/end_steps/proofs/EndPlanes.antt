@@ -8,7 +8,7 @@ use native.Mathlib.Omega.{arith}
 use native.Mathlib.Nat.{mul_comm, mul-le-mul, mul-le-mul_right, add-mul}
 use lib.Dec.{T, eqb, ltb}
 use borrow.Author.Tests.{eq-eqb, lt-ltb, le-ltb}
-use lib.IntN.{ℤ, pos, neg_ℤ, ◌+ℤ◌, ◌-ℤ◌, +ℤ_assoc}
+use lib.IntN.{pos, neg_ℤ, ◌+ℤ◌, ◌-ℤ◌, +ℤ_assoc}
 use lib.ListN.{length, get_or, drop, length-append, length-drop, get_or-append}
 use borrow.Rule.Slice.PartMut.{mid_of, put_mid}
 use Rattle.plane.specs.Point.{Point, ◌+ᵖ◌}

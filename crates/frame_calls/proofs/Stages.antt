@@ -11,7 +11,7 @@ use lib.Seq.{get_or-take}
 use borrow.Rule.Slice.PartMut.{mid_of, put_mid}
 use Rattle.plane.specs.Point.{Point}
 use Rattle.grids.specs.Image.{view}
-use Rattle.grids.specs.Frame.{grid_size, full, highest}
+use Rattle.grids.specs.Frame.{grid_size, highest}
 use Rattle.grids.specs.Grid.{outside_of, grid_bytes, once, written}
 use Rattle.grids.specs.declared.Around.{Around}
 use Rattle.grids.proofs.Values.{Upto}

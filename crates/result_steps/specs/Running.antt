@@ -1,6 +1,6 @@
 -- Document 01, "Frames": an operation from the plane, or the two planes, that the frame is packed into to the result. All stages are run, and the
 -- result is cut from the last plane, or planes.
-use Rattle.std.specs.Prelude.{◌≡◌, Bool, List, ℕ, ◌≤◌, length, get_or}
+use Rattle.std.specs.Prelude.{◌≡◌, Bool, List, ℕ, ◌≤◌, get_or}
 use Rattle.words.specs.Word.{place_x, place_y}
 use Rattle.cleaning.specs.declared.Operation.{Operation}
 use Rattle.turn_steps.specs.Turns.{Worded}

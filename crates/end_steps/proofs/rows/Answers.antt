@@ -1,7 +1,6 @@
 -- What can be worked out is, on one plane or on two.
 use mathlib.Core.Path.{refl}
 use Rattle.end_steps.proofs.EndPlanes.{none_above}
-use borrow.Author.Rules.{rules}
 use Rattle.end_steps.proofs.rows.Goals as goal
 
 pub returns-then-not-workable : goal.returns-then-not-workable

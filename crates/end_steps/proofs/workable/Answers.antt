@@ -1,9 +1,7 @@
 -- One test after the other: where one fails, the rows cannot be worked out; where none does, all that this asks for is there.
 use native.Mathlib.Omega.{arith}
-use borrow.Author.Rules.{rules}
-use mathlib.Core.Path.{◌≡◌, sym, ◌∙◌, subst}
-use mathlib.Core.Bool.{false}
-use Prim.Native.Nat.{◌*◌, ◌≤◌}
+use mathlib.Core.Path.{sym, ◌∙◌, subst}
+use Prim.Native.Nat.{◌≤◌}
 use native.Mathlib.Nat.{mul-le-mul}
 use lib.Dec.{T}
 use Rattle.frame_grounds.proofs.Sides.{sides}
@@ -52,7 +50,7 @@ pub returns-then-d-t-clause-no : goal.returns-then-d-t-clause-no
 returns-then-d-t-clause-no c _ q = c.if-d-t.true q.room
 
 pub returns-then-greatest-gt2-clause-no : goal.returns-then-greatest-gt2-clause-no
-returns-then-greatest-gt2-clause-no c _ q = 
+returns-then-greatest-gt2-clause-no c _ q =
     too_great c.args.w c.args.e c.args.part.now (sym c.bad_size.ensures ∙ c.if-bad_size.false) c.if-part-e.false c.requires c.if-greatest-gt2.true q.whole.clean
 
 pub returns-clause-yes : goal.returns-clause-yes

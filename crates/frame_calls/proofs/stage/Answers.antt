@@ -10,7 +10,6 @@ use Rattle.grids.specs.Grid.{stage_tests}
 use Rattle.frame_grounds.specs.Looking.{greatest_byte, stage_tests_by}
 use Rattle.frame_grounds.proofs.Looked.{stage_by}
 use Rattle.frame_calls.proofs.Fitting.{ready, measured, stage_done}
-use borrow.Author.Rules.{rules}
 use Rattle.frame_calls.proofs.stage.Goals as goal
 
 -- the grounds were tried with the greatest byte of the grid

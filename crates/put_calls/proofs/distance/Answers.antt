@@ -1,5 +1,4 @@
 -- Each arm of the match is one kind of grid.
-use borrow.Author.Rules.{rules}
 use mathlib.Core.Path.{sym, ap}
 use Prim.Native.Nat.{◌-◌}
 use Rattle.grids.specs.Grid.{start_of}

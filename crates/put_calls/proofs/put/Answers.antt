@@ -1,5 +1,4 @@
 -- A refusal is the answer; else what no ground refuses fits, and is written.
-use borrow.Author.Rules.{rules}
 use native.Mathlib.Omega.{arith}
 use mathlib.Core.Path.{refl}
 use Rattle.words.proofs.Refusals.{done_none}

@@ -1,6 +1,5 @@
 -- What cannot be run is left as it is; else the stages leave the images with room for the cut.
 use native.Mathlib.Omega.{arith}
-use borrow.Author.Rules.{rules}
 use mathlib.Core.Path.{refl}
 use Rattle.result_steps.proofs.run.Goals as goal
 

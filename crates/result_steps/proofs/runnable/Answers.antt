@@ -1,9 +1,6 @@
 -- One test after the other: where one fails, nothing can be run; where none does, all that a run asks for is there.
 use native.Mathlib.Omega.{arith}
-use borrow.Author.Rules.{rules}
-use mathlib.Core.Path.{◌≡◌, sym, ◌∙◌, subst}
-use mathlib.Core.Bool.{false}
-use Prim.Native.Nat.{◌+◌, ◌*◌, ◌≤◌}
+use mathlib.Core.Path.{sym, ◌∙◌, subst}
 use lib.Dec.{T}
 use Rattle.frame_grounds.proofs.Sides.{sides, small_grid}
 use Rattle.result_steps.proofs.runnable.Goals as goal

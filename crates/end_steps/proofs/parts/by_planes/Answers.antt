@@ -3,8 +3,7 @@ use borrow.Author.Tests.{eq-eqb, ne_eqb}
 use mathlib.Core.Path.{ap}
 use mathlib.Core.Bool.{cond}
 use Prim.Native.Nat.{◌%◌}
-use Rattle.end_steps.proofs.EndPlanes.{most, end_fits, end_rows}
-use borrow.Author.Rules.{rules}
+use Rattle.end_steps.proofs.EndPlanes.{end_fits, end_rows}
 use Rattle.end_steps.proofs.parts.by_planes.Goals as goal
 
 pub overflow_sub-x : goal.overflow_sub-x
@@ -12,20 +11,16 @@ overflow_sub-x c = c.requires.0.whole.across
 
 pub returns-then-n-eq0 : goal.returns-then-n-eq0
 returns-then-n-eq0 c =
-    let k = c in
-    let st = k in
-    let q = k.levels-n.ensures in
-    let i = k.levels-n.new.1.1.1.1.0 in
-    let j = k.levels-n.new.1.1.1.1.1.0 in
-    end_rows st.requires.0 st.requires.1 q i (ap (λ b. cond b i j) (eq-eqb (k.levels-n.result % 2) 0 c.if-n-eq0.true))
-    (c.unpack.ensures.done (end_fits st.requires.0 st.requires.1 q).0)
+    let q = c.levels-n.ensures in
+    let i = c.levels-n.new.first in
+    let j = c.levels-n.new.second in
+    end_rows c.requires.0 c.requires.1 q i (ap (λ b. cond b i j) (eq-eqb (c.levels-n.result % 2) 0 c.if-n-eq0.true))
+    (c.unpack.ensures.done (end_fits c.requires.0 c.requires.1 q).0)
 
 pub returns : goal.returns
 returns c =
-    let k = c in
-    let st = k in
-    let q = k.levels-n.ensures in
-    let i = k.levels-n.new.1.1.1.1.0 in
-    let j = k.levels-n.new.1.1.1.1.1.0 in
-    end_rows st.requires.0 st.requires.1 q j (ap (λ b. cond b i j) (ne_eqb (k.levels-n.result % 2) 0 c.if-n-eq0.false))
-    (c.unpack-2.ensures.done (end_fits st.requires.0 st.requires.1 q).1)
+    let q = c.levels-n.ensures in
+    let i = c.levels-n.new.first in
+    let j = c.levels-n.new.second in
+    end_rows c.requires.0 c.requires.1 q j (ap (λ b. cond b i j) (ne_eqb (c.levels-n.result % 2) 0 c.if-n-eq0.false))
+    (c.unpack-2.ensures.done (end_fits c.requires.0 c.requires.1 q).1)

@@ -2,7 +2,6 @@
 use lib.ListN.{length-replicate}
 use Prim.Native.Nat.{ℕ}
 use Rattle.end_steps.proofs.EndPlanes.{two_room}
-use borrow.Author.Rules.{rules}
 use Rattle.end_steps.proofs.parts.by_two.Goals as goal
 
 pub by_planes-requires : goal.by_planes-requires

@@ -1,7 +1,6 @@
 -- The level is packed, and taken through the stages.
 use Rattle.end_steps.proofs.EndPlanes.{most, level_packs, level_turnable, level_run}
 use native.Mathlib.Omega.{arith}
-use borrow.Author.Rules.{rules}
 use Rattle.end_steps.proofs.parts.level.Goals as goal
 
 pub overflow_add-w : goal.overflow_add-w

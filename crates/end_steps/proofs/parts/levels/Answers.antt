@@ -1,6 +1,5 @@
 -- One level, and the second where there are two planes.
 use Rattle.end_steps.proofs.EndPlanes.{run_one, run_two, still_room}
-use borrow.Author.Rules.{rules}
 use Rattle.end_steps.proofs.parts.levels.Goals as goal
 
 pub second_level-requires : goal.second_level-requires

@@ -3,7 +3,6 @@ use borrow.Rule.Slice.PartMut.{mid_len}
 use lib.ListN.{length}
 use Rattle.end_steps.proofs.EndPlanes.{second_run}
 use native.Mathlib.Omega.{arith}
-use borrow.Author.Rules.{rules}
 use Rattle.end_steps.proofs.parts.second_level.Goals as goal
 
 pub level-requires : goal.level-requires

@@ -1,6 +1,5 @@
 -- What is written from the planes is the grid after the stage.
 use Rattle.frame_calls.proofs.Stages.{unpacks, stage_written}
-use borrow.Author.Rules.{rules}
 use Rattle.frame_calls.proofs.staging.by_planes.Goals as goal
 
 pub returns : goal.returns

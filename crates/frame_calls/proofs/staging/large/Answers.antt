@@ -1,7 +1,6 @@
 -- The bytes lent have room.
 use Rattle.grids.specs.declared.Around.TheVariants.{Free}
 use Rattle.frame_calls.proofs.Stages.{plane_large, one_ready}
-use borrow.Author.Rules.{rules}
 use Rattle.frame_calls.proofs.staging.large.Goals as goal
 
 pub by_planes-requires : goal.by_planes-requires

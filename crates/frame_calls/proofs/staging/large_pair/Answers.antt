@@ -2,7 +2,6 @@
 use Rattle.grids.specs.declared.Around.TheVariants.{Free}
 use Rattle.frame_calls.proofs.Stages.{plane_large, two_ready}
 use native.Mathlib.Omega.{arith}
-use borrow.Author.Rules.{rules}
 use Rattle.frame_calls.proofs.staging.large_pair.Goals as goal
 
 pub by_planes-requires : goal.by_planes-requires

@@ -1,6 +1,5 @@
 -- Each step finds that sizes fit; what the second plane shows is that level of the grid after the stage.
 use Rattle.frame_calls.proofs.Stages.{packs, stages, level_taken}
-use borrow.Author.Rules.{rules}
 use Rattle.frame_calls.proofs.staging.level.Goals as goal
 
 pub returns : goal.returns

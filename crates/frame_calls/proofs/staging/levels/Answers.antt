@@ -1,7 +1,6 @@
 -- One level, and the second where there are two planes.
 use native.Mathlib.Omega.{arith}
 use Rattle.frame_calls.proofs.Stages.{still_ready, held_one, held_two}
-use borrow.Author.Rules.{rules}
 use Rattle.frame_calls.proofs.staging.levels.Goals as goal
 
 pub second_level-requires : goal.second_level-requires

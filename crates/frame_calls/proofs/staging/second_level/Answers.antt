@@ -1,6 +1,5 @@
 -- The level goes into the last part of the bytes lent.
 use Rattle.frame_calls.proofs.Stages.{second_taken}
-use borrow.Author.Rules.{rules}
 use Rattle.frame_calls.proofs.staging.second_level.Goals as goal
 
 pub returns : goal.returns

@@ -1,11 +1,6 @@
 -- The stages are run on the last parts of both images.
-use mathlib.Core.Path.{◌≡◌}
-use Prim.Native.Nat.{◌+◌, ◌≤◌}
-use lib.ListN.{length}
-use Rattle.planes.specs.Planes.{plane_size}
 use Rattle.result_steps.proofs.Rooms.{plane_is}
 use Rattle.result_steps.proofs.Behind.{second_starts, second_able, second_ends}
-use borrow.Author.Rules.{rules}
 use Rattle.result_steps.proofs.levels.second_stages.Goals as goal
 
 pub slice_bounds-stages-count : goal.slice_bounds-stages-count

@@ -2,7 +2,6 @@
 use Rattle.turn_steps.proofs.Alternating.{room_past}
 use Rattle.result_steps.proofs.Rooms.{room_planes}
 use Rattle.result_steps.proofs.Behind.{one_plane, two_planes}
-use borrow.Author.Rules.{rules}
 use Rattle.result_steps.proofs.levels.stages.Goals as goal
 
 pub second_stages-requires : goal.second_stages-requires

@@ -1,5 +1,4 @@
 -- Each arm of the match is one operation.
-use borrow.Author.Rules.{rules}
 use mathlib.Core.Path.{sym, ap}
 use Rattle.result_steps.specs.Cutting.{distance}
 use Rattle.result_steps.proofs.results.ahead.Goals as goal

@@ -3,7 +3,6 @@ use Rattle.words.specs.Word.{place_x, place_y}
 use Rattle.result_steps.proofs.Rooms.{room_cut}
 use Rattle.result_steps.proofs.Reading.{ahead_small, away_first, away_second}
 use native.Mathlib.Omega.{arith}
-use borrow.Author.Rules.{rules}
 use Rattle.result_steps.proofs.results.cut.Goals as goal
 
 pub returns-then-t-eq0 : goal.returns-then-t-eq0

@@ -1,5 +1,4 @@
 -- Where there are two planes, it is what the first takes.
-use borrow.Author.Rules.{rules}
 use mathlib.Core.Path.{sym, ap, ◌∙◌}
 use Prim.Native.Nat.{◌+◌}
 use Rattle.planes.specs.Planes.{second_at}
