@@ -1,6 +1,6 @@
 #!/usr/bin/env bash
 # Tries the built program `shapeplan` and compares what it prints, byte for byte, with document 01, "Printer".
-# Usage: tests/shapeplan.sh PROGRAM, as target/bin/shapeplan after `rt check shapeplan`.
+# Usage: tests/shapeplan.sh PROGRAM, as target/bin/shapeplan after tools/build.
 set -euo pipefail
 
 [ $# -eq 1 ] || { sed -n 2,3p "$0"; exit 2; }

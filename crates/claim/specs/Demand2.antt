@@ -1,6 +1,6 @@
 -- The owner's demand 2: sums, dilation, erosion, opening and closing are those of the plane's definitions, under the three values of document 02, W5, cut to
--- the frame only at the end; shape and plan lists are read and written exactly as laid out. The layouts themselves are shapePoints, planPoints, listed and
--- planWords of shapes. The single stage, putting, the load, also in ten-thousandths, and an arriving row are what the plane says of the grid or frame that they
+-- the frame only at the end; shape and plan lists are read and written exactly as laid out. The layouts themselves are shape_points, plan_points, listed and
+-- plan_words of shapes. The single stage, putting, the load, also in ten-thousandths, and an arriving row are what the plane says of the grid or frame that they
 -- read. What each shows is in Shows and Frames; that where every cell was measured it is Minkowski's is in Minkowski.
 use Rattle.std.specs.Prelude.{◌≡◌, ◌⊎◌, Bool, List, ℕ, ◌%◌}
 use Rattle.plane.specs.Lists.{In}

@@ -4,7 +4,7 @@
 use Rattle.std.specs.Prelude.{◌≡◌, List, [], ◌∷◌, ℕ, ◌+◌, ◌*◌, ◌≤◌, get_or}
 use Rattle.rows.specs.Cells.{Cells}
 
--- direction i is (plusX i − minusX i, plusY i − minusY i): (1,0) (2,1) (1,1) (1,2) (0,1) (−1,2) (−1,1) (−2,1), and these turned round
+-- direction i is (plus_x i − minus_x i, plus_y i − minus_y i): (1,0) (2,1) (1,1) (1,2) (0,1) (−1,2) (−1,1) (−2,1), and these turned round
 unfoldable pub plus_x : ℕ → ℕ
 plus_x i = get_or (1 ∷ 2 ∷ 1 ∷ 1 ∷ 0 ∷ 0 ∷ 0 ∷ 0 ∷ 0 ∷ 0 ∷ 0 ∷ 0 ∷ 0 ∷ 1 ∷ 1 ∷ 2 ∷ []) i 0
 

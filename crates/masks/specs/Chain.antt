@@ -1,6 +1,6 @@
 -- Document 01, "Stages and plans" and "Shortest plan": sums of lists of masks, chains, plans, and the order that picks the plan that is written.
 -- The permitted masks are a parameter: any subset of the square for chains, the stages for plans.
-use Rattle.std.specs.Prelude.{Bool, true, false, not, ◌&&◌, ◌||◌, List, [], ◌∷◌, map, ℕ, T, ltb, eqb, length}
+use Rattle.std.specs.Prelude.{Bool, false, not, ◌&&◌, ◌||◌, List, [], ◌∷◌, map, ℕ, T, ltb, eqb, length}
 use Rattle.plane.specs.Lists.{In, all, any_next, flat}
 use Rattle.plane.specs.Point.{Point, ◌+ᵖ◌, origin, PointSet, ◌≐◌, moved}
 use Rattle.masks.specs.Mask.{mask_cells, mask_points}

@@ -2,7 +2,7 @@
 use mathlib.Core.Path.{◌≡◌, refl, sym, ◌∙◌, subst}
 use mathlib.Core.Bool.{Bool, not}
 use mathlib.Core.Logic.{◌⊎◌, inl, inr, ⊎_elim}
-use mathlib.Core.List.{List, ◌∷◌}
+use mathlib.Core.List.{List, [], ◌∷◌}
 use Prim.Native.Nat.{ℕ, ◌+◌, ◌≤◌, ◌<◌}
 use native.Mathlib.Nat.{eq-or-lt_of_le}
 use native.Mathlib.Omega.{arith}
@@ -22,6 +22,7 @@ use Rattle.rows.proofs.Addition.{same_refl, same_sym, same_trans, to_cell, add_c
 
 -- a sum is the sum of one of its masks and of the others
 split : (m : ℕ) (ns : List ℕ) → In ns m → (rs : List ℕ) × Same (AtSum ns) (Sum (AtSum rs) (AtMask m))
+split m [] h = elim h [ ]
 split m (n ∷ ns) (inl e) = (ns, subst (λ k. Same (Sum (AtMask k) (AtSum ns)) (Sum (AtSum ns) (AtMask m))) e sum_comm)
 split m (n ∷ ns) (inr h) =
     let r = split m ns h in

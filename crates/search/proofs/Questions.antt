@@ -1,12 +1,12 @@
 -- The quick search is asked with the numbers of the marked masks and of the cells; where it says no, no stages sum to the cells.
-use mathlib.Core.Path.{◌≡◌, refl, sym, subst}
+use mathlib.Core.Path.{◌≡◌, refl, subst}
 use mathlib.Core.Bool.{true, false, false≢true}
 use mathlib.Core.List.{List}
 use Prim.Native.Nat.{ℕ, ◌+◌, ◌≤◌, ◌<◌}
 use native.Mathlib.Omega.{arith}
 use lib.Dec.{T}
 use lib.ListN.{length, take, replicate, length-take}
-use Rattle.plane.specs.Lists.{In, all}
+use Rattle.plane.specs.Lists.{all}
 use Rattle.plane.proofs.Member.{In-all}
 use Rattle.masks.specs.Mask.{mask_cells, stage}
 use Rattle.masks.proofs.Cells.{Low, normal_low, stage_normal, stage_below}

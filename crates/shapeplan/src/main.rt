@@ -4,7 +4,8 @@
 
 ghost use Rattle.std.specs.Prelude.{◌≤◌};
 
-use libc::{STDIN_FILENO, STDOUT_FILENO};
+use std::io;
+use std::io::Read;
 use text::Reading;
 
 // What has been read so far; whether there may be more; whether a read failed.
@@ -16,27 +17,24 @@ struct Input {
 }
 
 // Reads once.
-fn read_once(s: Reading) -> Input {
-    let mut buf = io::large_buffer();
-    let got = libc::read(STDIN_FILENO, &mut buf);
-    if got < 0 {
-        return Input {
+fn read_once(rt: &impl io::Input, s: Reading) -> Input {
+    let mut buf = [0u8; 65536];
+    match rt.reader().read(&mut buf) {
+        Ok(n) => Input {
+            reading: line_steps::read_some(s, &buf[..n]),
+            more: n > 0,
+            failed: false,
+        },
+        Err(_) => Input {
             reading: s,
             more: false,
             failed: true,
-        };
-    }
-    let n = io::count(got, &buf);
-    let next = line_steps::read_some(s, &buf[..n]);
-    Input {
-        reading: next,
-        more: got > 0,
-        failed: false,
+        },
     }
 }
 
 // Reads to the end of the input, or to a read that fails. A proved loop has to end, so this one counts its turns down, from a number that no run uses up.
-fn read_all() -> Input {
+fn read_all(rt: &impl io::Input) -> Input {
     let mut input = Input {
         reading: line_steps::nothing(),
         more: true,
@@ -47,7 +45,7 @@ fn read_all() -> Input {
         if !input.more {
             return input;
         }
-        let next = read_once(input.reading);
+        let next = read_once(rt, input.reading);
         input = next;
         turns -= 1;
     }
@@ -55,19 +53,18 @@ fn read_all() -> Input {
 }
 
 // Writes the text of a page.
-fn write(p: text::Page)
+fn write(rt: &impl io::Print, p: text::Page) -> io::Result<()>
     requires { p.n ≤ 288 }
 {
     let n = p.n;
     let bytes = p.bytes;
-    io::write_all(STDOUT_FILENO, &bytes[..n]);
+    rt.write_all(&bytes[..n])
 }
 
-fn main() {
-    let input = read_all();
+fn main(rt: HostRuntime) -> io::Result<()> {
+    let input = read_all(&rt);
     if input.failed {
-        write(page_steps::unreadable_page());
-        return;
+        return write(&rt, page_steps::unreadable_page());
     }
-    write(print_calls::page(input.reading));
+    write(&rt, print_calls::page(input.reading))
 }

@@ -1,5 +1,4 @@
 -- The greatest cell decides.
-use borrow.Author.Rules.{rules}
 use mathlib.Core.Path.{◌∙◌, ap}
 use lib.Dec.{ltb}
 use lib.ListN.{take}

@@ -1,11 +1,8 @@
 -- The invariant: the greatest so far and the cells from `i` on have the greatest of all. The measure is the number of cells left.
-use borrow.Author.Rules.{rules}
-use mathlib.Core.Path.{◌≡◌, sym, ◌∙◌, ap}
-use Prim.Native.Nat.{◌+◌, ◌-◌, max}
-use native.Mathlib.Omega.{arith}
+use mathlib.Core.Path.{◌≡◌}
+use Prim.Native.Nat.{◌-◌, max}
 use lib.ListN.{length, drop}
 use Rattle.cell_steps.specs.Leaves.{greatest_of}
-use Rattle.cell_steps.proofs.Loops.{greatest_one, greatest_none}
 use Rattle.cell_steps.proofs.greatest.Given as goal
 
 abbrev pub invariant-loop-i : goal.invariant-loop-i

@@ -1,5 +1,4 @@
 -- The part that is looked at has the first n cells, or all.
-use borrow.Author.Rules.{rules}
 use mathlib.Core.Path.{◌≡◌, ◌∙◌, ap}
 use Prim.Native.Nat.{◌-◌, min}
 use native.Mathlib.Nat.{sub-zero}

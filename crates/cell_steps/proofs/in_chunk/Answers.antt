@@ -1,9 +1,4 @@
-use borrow.Author.Rules.{rules}
-use mathlib.Core.Path.{◌≡◌}
-use Prim.Native.Nat.{◌+◌, ◌-◌, ◌≤◌}
 use native.Mathlib.Omega.{arith}
-use lib.ListN.{length, drop}
-use Rattle.cell_steps.specs.Leaves.{counts_of}
 use Rattle.cell_steps.proofs.Loops.{counts_one, counts_none}
 use Rattle.cell_steps.proofs.in_chunk.Goals as goal
 

@@ -1,12 +1,9 @@
 -- The invariant: the count so far and those of the cells from `j` on make the whole; each cell adds at most 1, so a byte holds those of 255.
 -- The measure is the number of cells left.
-use borrow.Author.Rules.{rules}
 use mathlib.Core.Path.{◌≡◌}
 use Prim.Native.Nat.{◌+◌, ◌-◌, ◌≤◌}
-use native.Mathlib.Omega.{arith}
 use lib.ListN.{length, drop}
 use Rattle.cell_steps.specs.Leaves.{counts_of}
-use Rattle.cell_steps.proofs.Loops.{counts_one, counts_none}
 use Rattle.cell_steps.proofs.in_chunk.Given as goal
 
 abbrev pub invariant-loop-j : goal.invariant-loop-j

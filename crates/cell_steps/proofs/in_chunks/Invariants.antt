@@ -1,12 +1,9 @@
 -- The invariant: the count so far and those of the cells from `k` on make the whole, which is at most the number of cells, so nothing wraps.
 -- The measure is the number of cells left; behind the last whole chunk these are fewer than a chunk has, and the last call counts them.
-use borrow.Author.Rules.{rules}
-use mathlib.Core.Path.{◌≡◌, ◌∙◌}
+use mathlib.Core.Path.{◌≡◌}
 use Prim.Native.Nat.{◌+◌, ◌-◌, ◌≤◌}
-use native.Mathlib.Omega.{arith}
-use lib.ListN.{length, drop, length-take}
+use lib.ListN.{length, drop}
 use Rattle.cell_steps.specs.Leaves.{counts_of}
-use Rattle.cell_steps.proofs.Loops.{counts_part, counts_most, counts_none, counts_times}
 use Rattle.cell_steps.proofs.in_chunks.Given as goal
 
 abbrev pub invariant-loop-k : goal.invariant-loop-k

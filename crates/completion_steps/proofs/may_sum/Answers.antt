@@ -1,7 +1,6 @@
 -- From the start: the path is empty, and the residue is the target.
 use mathlib.Core.Bool.{true≢false}
 use Rattle.completions.proofs.Nodes.{no_sum}
-use borrow.Author.Rules.{rules}
 use Rattle.completion_steps.proofs.may_sum.Goals as goal
 
 pub returns-then-k-gt32 : goal.returns-then-k-gt32

@@ -1,8 +1,7 @@
 -- The bounds, the step and the question, each with its law.
-use borrow.Author.Tests.{not-true, not-false}
 use Rattle.completions.proofs.Opening.{opened_outside, opened_passed, opened_none, opened_yes}
 use native.Mathlib.Omega.{arith}
-use borrow.Author.Rules.{rules}
+use borrow.Author.Tests.{not-true, not-false}
 use Rattle.completion_steps.proofs.opened.Goals as goal
 
 pub returns-then-not-roomy : goal.returns-then-not-roomy
@@ -16,12 +15,12 @@ pub returns-then-not-c : goal.returns-then-not-c
 returns-then-not-c c =
     let st = c in
     let h = st.args.here in
-    opened_passed st.args.nums.now st.args.cand.now h st.args.m st.args.k _ c.step-c.ensures (c.if-not-c.true)
+    opened_passed st.args.nums.now st.args.cand.now h st.args.m st.args.k _ c.step-c.ensures (not-true _ c.if-not-c.true)
 
 pub node-requires : goal.node-requires
 node-requires c =
     let room = c.roomy.ensures.yes (c.if-not-roomy.false) in
-    let n = (c.step-c.ensures.below.longer (c.if-not-c.false)).1 in
+    let n = (c.step-c.ensures.below.longer (not-false _ c.if-not-c.false)).1 in
     (omega (arith, room.1, n), room.0)
 
 pub returns-then-not-node : goal.returns-then-not-node
@@ -29,7 +28,7 @@ returns-then-not-node c =
     let st = c in
     let h = st.args.here in
     opened_none st.args.nums.now st.args.cand.now h st.args.m st.args.k _ c.step-c.ensures
-    (c.if-not-c.false) (c.node.ensures (c.if-not-node.true))
+    (not-false _ c.if-not-c.false) (c.node.ensures (c.if-not-node.true))
 
 pub returns : goal.returns
 returns c =
@@ -38,4 +37,4 @@ returns c =
     let room = c.roomy.ensures.yes
     (c.if-not-roomy.false) in
     opened_yes st.args.nums.now st.args.cand.now h st.args.m st.args.k _ c.step-c.ensures
-    (c.if-not-c.false) (record { list = room.0; path = room.1 })
+    (not-false _ c.if-not-c.false) (record { list = room.0; path = room.1 })

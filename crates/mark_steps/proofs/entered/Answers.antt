@@ -3,7 +3,6 @@ use mathlib.Core.Path.{refl}
 use lib.Dec.{eqb→eq}
 use Rattle.plane.proofs.Tests.{eq-eqb}
 use Rattle.search.proofs.Asked.{tabled_more, tabled_skip, stage_numbers}
-use borrow.Author.Rules.{rules}
 use Rattle.mark_steps.proofs.entered.Goals as goal
 
 pub returns-then-marks-m-ne1 : goal.returns-then-marks-m-ne1

@@ -1,13 +1,12 @@
 use mathlib.Core.Path.{refl, sym, subst}
-use mathlib.Core.Logic.{⊎_elim}
-use Prim.Native.Nat.{ℕ, ◌+◌, ◌≤◌, ◌-◌}
+use Prim.Native.Nat.{ℕ, ◌+◌}
 use lib.Dec.{eqb→eq}
 use lib.ListN.{set}
 use Rattle.plane.proofs.Tests.{eq-eqb}
 use Rattle.search.specs.Asking.{Drawn}
 use Rattle.search.proofs.Asked.{drawn_none, drawn_more, drawn_skip}
-use borrow.Author.Rules.{rules}
 use native.Mathlib.Omega.{arith}
+use Rattle.mark_steps.proofs.listed.Goals.{then-marks-m-eq1, else-marks-m-eq1}
 use Rattle.mark_steps.proofs.listed.Goals as goal
 
 pub loop-m-init : goal.loop-m-init
@@ -19,12 +18,12 @@ loop-m-preserved c =
     let l = st.loop-m in
     let marks = st.args.marks.now in (
       omega arith,
-      ⊎_elim
-          (λ w. subst (λ (k : ℕ). Drawn marks (l.m + 1) (set l.list l.n l.m) k) (sym w.1)
-          (drawn_more marks l.list l.n l.m (omega arith) l.invariant.1 (eq-eqb w.0.taken)))
-          (λ w. subst (λ (k : ℕ). Drawn marks (l.m + 1) (set l.list l.n l.m) k) (sym w.1)
-          (drawn_skip marks l.list l.n l.m (omega arith) l.invariant.1 (λ t. w.0.left (eqb→eq _ _ t))))
-          c.if-marks-m-eq1.branch,
+      elim c.if-marks-m-eq1.branch [
+        | then-marks-m-eq1 w ↦ subst (λ (k : ℕ). Drawn marks (l.m + 1) (set l.list l.n l.m) k) (sym w.n-is)
+            (drawn_more marks l.list l.n l.m (omega arith) l.invariant.1 (eq-eqb w.if-marks-m-eq1.true))
+        | else-marks-m-eq1 w ↦ subst (λ (k : ℕ). Drawn marks (l.m + 1) (set l.list l.n l.m) k) (sym w.n-is)
+            (drawn_skip marks l.list l.n l.m (omega arith) l.invariant.1 (λ t. w.if-marks-m-eq1.false (eqb→eq _ _ t)))
+      ],
     )
 
 pub returns : goal.returns

@@ -1,11 +1,9 @@
 -- No stage, or one that leaves the cells as they are, or not.
-use borrow.Author.Tests.{not-true, not-false}
 use mathlib.Core.Path.{refl, sym, ◌∙◌, subst}
 use lib.Dec.{T}
 use Rattle.masks.specs.Mask.{stage}
 use Rattle.rows.proofs.Known.{rows16}
 use Rattle.search.proofs.Marking.{mark_none, mark_one, opens}
-use borrow.Author.Rules.{rules}
 use Rattle.mark_steps.proofs.mark.Goals as goal
 
 pub returns-then-not-is_stage : goal.returns-then-not-is_stage

@@ -1,7 +1,5 @@
-use borrow.Author.Rules.{rules}
 use native.Mathlib.Omega.{arith}
 use mathlib.Core.Path.{◌≡◌, subst}
-use Prim.Native.Nat.{◌-◌, ◌≤◌}
 use Rattle.masks.specs.Mask.{stage}
 use Rattle.rows.specs.Cells.{At}
 use Rattle.search.specs.Tree.{Candidates}

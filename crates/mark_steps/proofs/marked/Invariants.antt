@@ -1,12 +1,8 @@
 -- The invariant: the masks before `m` have their marks.
-use borrow.Author.Rules.{rules}
-use native.Mathlib.Omega.{arith}
-use mathlib.Core.Path.{◌≡◌, subst}
 use Prim.Native.Nat.{◌-◌, ◌≤◌}
 use Rattle.masks.specs.Mask.{stage}
 use Rattle.rows.specs.Cells.{At}
 use Rattle.search.specs.Tree.{Candidates}
-use Rattle.search.proofs.Marking.{marked_none, marked_more}
 use Rattle.mark_steps.proofs.marked.Given as goal
 
 abbrev pub invariant-loop-m : goal.invariant-loop-m

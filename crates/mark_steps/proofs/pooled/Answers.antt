@@ -3,7 +3,6 @@ use mathlib.Core.Path.{refl}
 use Rattle.masks.specs.Mask.{stage}
 use Rattle.rows.specs.Cells.{At}
 use Rattle.search.proofs.Marking.{marks_of}
-use borrow.Author.Rules.{rules}
 use Rattle.mark_steps.proofs.pooled.Goals as goal
 
 pub tabled-requires : goal.tabled-requires

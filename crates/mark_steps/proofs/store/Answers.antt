@@ -1,9 +1,5 @@
-use mathlib.Core.Path.{◌≡◌, refl}
-use Prim.Native.Nat.{◌≤◌, ◌-◌}
-use lib.ListN.{length}
-use Rattle.search.specs.Asking.{Stored}
+use mathlib.Core.Path.{refl}
 use Rattle.search.proofs.Asked.{stored_none, stored_more}
-use borrow.Author.Rules.{rules}
 use native.Mathlib.Omega.{arith}
 use Rattle.mark_steps.proofs.store.Goals as goal
 

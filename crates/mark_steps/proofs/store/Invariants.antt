@@ -1,11 +1,8 @@
 -- The invariant: the first i numbers stand in their places. The measure: the numbers left.
-use mathlib.Core.Path.{◌≡◌, refl}
+use mathlib.Core.Path.{◌≡◌}
 use Prim.Native.Nat.{◌≤◌, ◌-◌}
 use lib.ListN.{length}
 use Rattle.search.specs.Asking.{Stored}
-use Rattle.search.proofs.Asked.{stored_none, stored_more}
-use borrow.Author.Rules.{rules}
-use native.Mathlib.Omega.{arith}
 use Rattle.mark_steps.proofs.store.Given as goal
 
 abbrev pub invariant-loop-j : goal.invariant-loop-j

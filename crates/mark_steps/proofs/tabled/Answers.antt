@@ -1,9 +1,5 @@
-use mathlib.Core.Path.{◌≡◌, refl, ◌∙◌}
-use Prim.Native.Nat.{◌≤◌, ◌-◌}
-use lib.ListN.{length}
-use Rattle.search.specs.Asking.{Tabled}
+use mathlib.Core.Path.{refl, ◌∙◌}
 use Rattle.search.proofs.Asked.{tabled_none}
-use borrow.Author.Rules.{rules}
 use native.Mathlib.Omega.{arith}
 use Rattle.mark_steps.proofs.tabled.Goals as goal
 

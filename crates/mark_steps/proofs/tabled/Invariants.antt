@@ -1,11 +1,8 @@
 -- The invariant: the numbers of the marked masks below m stand in the table. The measure: the masks left.
-use mathlib.Core.Path.{◌≡◌, refl, ◌∙◌}
+use mathlib.Core.Path.{◌≡◌}
 use Prim.Native.Nat.{◌≤◌, ◌-◌}
 use lib.ListN.{length}
 use Rattle.search.specs.Asking.{Tabled}
-use Rattle.search.proofs.Asked.{tabled_none}
-use borrow.Author.Rules.{rules}
-use native.Mathlib.Omega.{arith}
 use Rattle.mark_steps.proofs.tabled.Given as goal
 
 abbrev pub invariant-loop-m : goal.invariant-loop-m

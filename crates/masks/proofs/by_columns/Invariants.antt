@@ -1,10 +1,7 @@
 -- A shift by one column makes no difference to what is left in the end; the measure is the mask, which a shift lowers.
-use borrow.Author.Rules.{rules}
-use native.Mathlib.Omega.{arith}
-use mathlib.Core.Path.{◌≡◌, refl, sym, ap, ◌∙◌}
+use mathlib.Core.Path.{◌≡◌}
 use Prim.Native.Nat.{◌<◌}
-use borrow.Author.Tests.{not-true, not-false}
-use Rattle.masks.proofs.Shifts.{columns_down, column_step, column_stop, columns_zero}
+use Rattle.masks.proofs.Shifts.{columns_down}
 use Rattle.masks.proofs.by_columns.Given as goal
 
 abbrev pub invariant-loop-mask : goal.invariant-loop-mask

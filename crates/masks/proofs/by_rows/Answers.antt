@@ -1,7 +1,5 @@
-use borrow.Author.Rules.{rules}
 use native.Mathlib.Omega.{arith}
 use mathlib.Core.Path.{◌≡◌, refl, sym, ap, ◌∙◌}
-use Prim.Native.Nat.{◌<◌}
 use Rattle.masks.proofs.Shifts.{rows_down, row_step, row_stop, rows_zero}
 use Rattle.masks.proofs.by_rows.Goals as goal
 

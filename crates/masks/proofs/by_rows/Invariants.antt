@@ -1,9 +1,7 @@
 -- A shift by one row makes no difference to what is left in the end; the measure is the mask, which a shift lowers.
-use borrow.Author.Rules.{rules}
-use native.Mathlib.Omega.{arith}
-use mathlib.Core.Path.{◌≡◌, refl, sym, ap, ◌∙◌}
+use mathlib.Core.Path.{◌≡◌}
 use Prim.Native.Nat.{◌<◌}
-use Rattle.masks.proofs.Shifts.{rows_down, row_step, row_stop, rows_zero}
+use Rattle.masks.proofs.Shifts.{rows_down}
 use Rattle.masks.proofs.by_rows.Given as goal
 
 abbrev pub invariant-loop-m : goal.invariant-loop-m

@@ -1,5 +1,4 @@
 -- Column 0 is the bits 0, 3 and 6.
-use borrow.Author.Rules.{rules}
 use native.Mathlib.Omega.{arith}
 use mathlib.Core.Path.{◌≡◌, ◌∙◌}
 use mathlib.Core.Bool.{true}

@@ -1,5 +1,4 @@
 -- By rows and then by columns is the whole shift, of which the rule is proved.
-use borrow.Author.Rules.{rules}
 use native.Mathlib.Omega.{arith}
 use mathlib.Core.Path.{sym, ap, subst, ◌∙◌}
 use Prim.Native.Nat.{◌%◌, ◌<◌}

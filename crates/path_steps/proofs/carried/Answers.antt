@@ -1,8 +1,5 @@
 use mathlib.Core.Path.{◌≡◌, subst}
-use Prim.Native.Nat.{◌≤◌, ◌-◌}
-use Rattle.rows.specs.Cells.{At}
 use Rattle.completions.proofs.Covering.{Carried, carried_none, carried_more}
-use borrow.Author.Rules.{rules}
 use native.Mathlib.Omega.{arith}
 use Rattle.path_steps.proofs.carried.Goals as goal
 

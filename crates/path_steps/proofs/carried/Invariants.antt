@@ -1,10 +1,7 @@
 -- The invariant: z is the sum of a and the first j of the path, cut to the window. The measure: the masks left.
-use mathlib.Core.Path.{◌≡◌, subst}
 use Prim.Native.Nat.{◌≤◌, ◌-◌}
 use Rattle.rows.specs.Cells.{At}
-use Rattle.completions.proofs.Covering.{Carried, carried_none, carried_more}
-use borrow.Author.Rules.{rules}
-use native.Mathlib.Omega.{arith}
+use Rattle.completions.proofs.Covering.{Carried}
 use Rattle.path_steps.proofs.carried.Given as goal
 
 abbrev pub invariant-loop-j : goal.invariant-loop-j

@@ -3,7 +3,6 @@ use mathlib.Core.Bool.{true≢false}
 use Rattle.rows.specs.Cells.{Sum, At, AtMask}
 use Rattle.rows.proofs.Known.{rows16}
 use Rattle.completions.proofs.Covering.{carried_end}
-use borrow.Author.Rules.{rules}
 use Rattle.path_steps.proofs.covers.Goals as goal
 
 pub returns-then-same : goal.returns-then-same

@@ -3,10 +3,9 @@ use mathlib.Core.Path.{◌≡◌}
 use mathlib.Core.Bool.{false≢true}
 use Prim.Native.Nat.{◌/◌, ◌%◌}
 use lib.ListN.{get_or}
-use Rattle.rows.proofs.Known.{field16}
+use Rattle.rows.proofs.Known.{rows16}
 use Rattle.completions.proofs.Covering.{origin_left, path_whole, path_part}
 use native.Mathlib.Omega.{arith}
-use borrow.Author.Rules.{rules}
 use Rattle.path_steps.proofs.finished.Goals as goal
 
 pub returns-then-len-gt32 : goal.returns-then-len-gt32
@@ -26,7 +25,7 @@ pub returns : goal.returns
 returns c =
     let st = c in
     let h = st.args.here in
-    let known = field16 h.target _ st.well_formed.0.1.1.0 in
+    let known = rows16 h.target _ st.well_formed.0.1.1.0 in
     let cut = c.carried-sum.ensures in
     let g = c.if-rest-eq0.false in
     let o : get_or h.rest 0 0 / 1 % 2 ≡ 1 = omega arith in

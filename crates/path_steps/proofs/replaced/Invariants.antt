@@ -1,8 +1,6 @@
 -- The invariant: p is r or past it. The measure: the masks left.
 use Prim.Native.Nat.{◌≤◌, ◌-◌}
 use lib.ListN.{length}
-use borrow.Author.Rules.{rules}
-use native.Mathlib.Omega.{arith}
 use Rattle.path_steps.proofs.replaced.Given as goal
 
 abbrev pub invariant-loop-p : goal.invariant-loop-p

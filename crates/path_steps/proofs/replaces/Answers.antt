@@ -2,7 +2,6 @@
 use mathlib.Core.Bool.{false≢true}
 use Rattle.rows.proofs.Known.{rows16}
 use Rattle.completions.proofs.Covering.{replacing}
-use borrow.Author.Rules.{rules}
 use Rattle.path_steps.proofs.replaces.Goals as goal
 
 pub returns-then-b-m : goal.returns-then-b-m

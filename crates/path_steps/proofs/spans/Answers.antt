@@ -7,7 +7,6 @@ use Rattle.rows.proofs.Known.{rows16}
 use Rattle.rows.proofs.RowBits.{no_bit}
 use Rattle.rows.proofs.Sums.{in_x, in_y}
 use native.Mathlib.Omega.{arith}
-use borrow.Author.Rules.{rules}
 use Rattle.path_steps.proofs.spans.Goals as goal
 
 pub returns-then-w-ge16 : goal.returns-then-w-ge16

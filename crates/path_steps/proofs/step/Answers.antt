@@ -1,9 +1,7 @@
 -- A mask is passed over for one of the reasons of `Stepping`; else the state below is ready.
-use borrow.Author.Tests.{not-true, not-false}
-use Rattle.rows.proofs.Known.{field16, field_length}
+use Rattle.rows.proofs.Known.{rows16}
 use Rattle.completions.proofs.Stepping.{gained, stepped_no, step_unfit, step_unmet, step_uncovered, stepped_yes}
 use native.Mathlib.Omega.{arith}
-use borrow.Author.Rules.{rules}
 use Rattle.path_steps.proofs.step.Goals as goal
 
 pub returns-then-len-ge32 : goal.returns-then-len-ge32
@@ -19,16 +17,16 @@ returns-then-not-fits c =
     let h = st.args.here in
     let nums = st.args.nums.now in
     stepped_no nums h st.args.m (λ l permitted r t. step_unfit nums h st.args.m permitted r t
-    (c.fits2.ensures.1 (c.if-not-fits.true) (r.known.below st.args.m t)))
+    (c.fits.ensures.no (c.if-not-fits.true) (r.known.below st.args.m t)))
 
 pub returns-then-not-reaches : goal.returns-then-not-reaches
 returns-then-not-reaches c =
-    let fit = c.fits2.ensures.0
+    let fit = c.fits.ensures.yes
     (c.if-not-fits.false) in
     let st = c in
     let h = st.args.here in
     let nums = st.args.nums.now in
-    let known = field16 h.rest _ st.well_formed.0.1.1.1.0 in
+    let known = rows16 h.rest _ st.well_formed.0.1.1.1.0 in
     stepped_no nums h st.args.m (λ l permitted r t. step_unmet nums h st.args.m permitted r t known _ c.shrunk-t.ensures
     c.less-left.result (c.less-left.ensures.after fit.0)
     fit.1 (c.reaches.ensures.no (c.if-not-reaches.true)))
@@ -38,7 +36,7 @@ returns-then-not-covers c =
     let st = c in
     let h = st.args.here in
     let nums = st.args.nums.now in
-    let known = field16 h.rest _ st.well_formed.0.1.1.1.0 in
+    let known = rows16 h.rest _ st.well_formed.0.1.1.1.0 in
     stepped_no nums h st.args.m (λ l permitted r t. step_uncovered nums h st.args.m permitted r t known _
     c.shrunk-t.ensures (c.covers.ensures (c.if-not-covers.true)))
 
@@ -47,9 +45,9 @@ returns c =
     let st = c in
     let h = st.args.here in
     let nums = st.args.nums.now in
-    let known = field16 h.rest _ st.well_formed.0.1.1.1.0 in
-    let long = field_length 32 h.path st.well_formed.0.1.1.1.1.0.1.0.1 in
-    let fit = c.fits2.ensures.0
+    let known = rows16 h.rest _ st.well_formed.0.1.1.1.0 in
+    let long = st.well_formed.0.1.1.1.1.0.1.0.1 in
+    let fit = c.fits.ensures.yes
     (c.if-not-fits.false) in
     let less = c.less-left.ensures.after fit.0 in
     let p = less 16 (omega arith) in

@@ -1,7 +1,6 @@
 -- Each branch's test says which case of `after` holds.
 use mathlib.Core.Path.{sym, subst}
 use Prim.Native.Nat.{◌<◌, ◌≤◌}
-use borrow.Author.Rules.{rules}
 use Rattle.readers.proofs.Positions.{after_within, after_end}
 use Rattle.readers.proofs.after_at.Goals as goal
 

@@ -1,6 +1,5 @@
 -- Each branch's test says which case of `item_at` holds.
 use mathlib.Core.Path.{sym, ap, ◌∙◌}
-use borrow.Author.Rules.{rules}
 use Rattle.readers.specs.declared.Item.TheVariants.{Found}
 use Rattle.readers.proofs.Positions.{item_here, item_end}
 use Rattle.readers.proofs.item_at.Goals as goal

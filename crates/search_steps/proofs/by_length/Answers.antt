@@ -1,8 +1,6 @@
-use Prim.Native.Nat.{◌-◌, ◌+◌, ◌≤◌}
 use Rattle.masks.specs.Mask.{stage}
 use Rattle.rows.specs.Cells.{At}
-use Rattle.search.proofs.Lengths.{NoneBelow, none_short, none_more, none_found, found_first}
-use borrow.Author.Rules.{rules}
+use Rattle.search.proofs.Lengths.{none_short, none_more, none_found, found_first}
 use native.Mathlib.Omega.{arith}
 use Rattle.search_steps.proofs.by_length.Goals as goal
 

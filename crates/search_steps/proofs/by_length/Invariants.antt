@@ -2,9 +2,7 @@
 use Prim.Native.Nat.{◌-◌, ◌+◌, ◌≤◌}
 use Rattle.masks.specs.Mask.{stage}
 use Rattle.rows.specs.Cells.{At}
-use Rattle.search.proofs.Lengths.{NoneBelow, none_short, none_more, none_found, found_first}
-use borrow.Author.Rules.{rules}
-use native.Mathlib.Omega.{arith}
+use Rattle.search.proofs.Lengths.{NoneBelow}
 use Rattle.search_steps.proofs.by_length.Given as goal
 
 abbrev pub invariant-loop-k : goal.invariant-loop-k

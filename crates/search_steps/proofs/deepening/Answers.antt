@@ -2,12 +2,10 @@
 use mathlib.Core.Path.{◌≡◌, subst}
 use Prim.Native.Nat.{ℕ, ◌-◌}
 use lib.ListN.{take}
-use borrow.Author.Tests.{not-true}
 use Rattle.rows.proofs.Known.{rows16}
 use Rattle.search.specs.Asking.{Drawn}
 use Rattle.search.proofs.Questions.{questioned, no_plan}
 use native.Mathlib.Omega.{arith}
-use borrow.Author.Rules.{rules}
 use Rattle.search_steps.proofs.deepening.Goals as goal
 
 pub returns-then-not-may_sum : goal.returns-then-not-may_sum

@@ -1,9 +1,7 @@
 -- Where the quick search says no there is no such list; else the tree is gone down.
-use borrow.Author.Tests.{not-true}
 use Rattle.rows.specs.Cells.{chosen}
 use Rattle.search.proofs.Questions.{no_answer, start_kept}
 use native.Mathlib.Omega.{arith}
-use borrow.Author.Rules.{rules}
 use Rattle.search_steps.proofs.of_length.Goals as goal
 
 pub returns-then-not-may_sum : goal.returns-then-not-may_sum

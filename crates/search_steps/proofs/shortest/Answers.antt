@@ -1,11 +1,9 @@
 -- No cell, a face that no sum has, or the extents of the cells and the search.
-use borrow.Author.Tests.{not-true}
 use Rattle.masks.specs.Mask.{stage}
 use Rattle.extents.specs.Extents.{row, column}
 use Rattle.extents.proofs.Search.{last_at}
 use Rattle.rows.proofs.Known.{rows16}
 use Rattle.search.proofs.Lengths.{none_any, none_empty, wide_in, high_in}
-use borrow.Author.Rules.{rules}
 use Rattle.search_steps.proofs.shortest.Goals as goal
 
 pub returns-then-empty : goal.returns-then-empty

@@ -2,7 +2,6 @@
 use mir.Syntax.{w8}
 use Rattle.rows.proofs.Known.{array_below}
 use native.Mathlib.Omega.{arith}
-use borrow.Author.Rules.{rules}
 use Rattle.search_steps.proofs.too_many.Goals as goal
 
 pub overflow_add-result : goal.overflow_add-result

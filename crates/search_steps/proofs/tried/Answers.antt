@@ -2,7 +2,6 @@
 use borrow.Author.Tests.{ltb-true, not-false}
 use mathlib.Core.Path.{sym, ◌∙◌}
 use Rattle.search.proofs.Trying.{led, led_few}
-use borrow.Author.Rules.{rules}
 use Rattle.search_steps.proofs.tried.Goals as goal
 
 pub returns-then-not-c : goal.returns-then-not-c
@@ -16,7 +15,7 @@ returns-then-too_many c =
     let st = c in
     let h = st.args.here in
     led_few st.args.nums.now st.args.cand.now h st.args.m st.args.j _
-    c.opened-c.ensures (c.if-not-c.false)
+    c.opened-c.ensures (not-false _ c.if-not-c.false)
     (ltb-true _ _ (sym c.too_many.ensures ∙ c.if-too_many.true))
 
 pub returns : goal.returns

@@ -1,10 +1,9 @@
 -- Lists of which one is refused are refused; else the shapes that they stand for are joined and written.
 use mathlib.Core.Path.{refl}
-use borrow.Author.Rules.{rules}
-use Rattle.words.proofs.Tested.{no_refusal, refused_first}
+use Rattle.words.proofs.Tested.{refused_first}
 use Rattle.shape_calls.proofs.Reading.{shape_read}
 use Rattle.shape_calls.proofs.Calls.{made_returned, shapes_clear, each_accepted, list_made, append_points}
-use Rattle.words.proofs.Refusals.{promised_rest}
+use Rattle.words.proofs.Refusals.{done_none, promised_rest}
 use Rattle.elements.specs.Standing.{points_of}
 use Rattle.shapes.specs.Shape.{shape_points, shape_tests}
 use Rattle.words.specs.Ground.{both}
@@ -13,19 +12,16 @@ use Rattle.shape_calls.proofs.join_shapes.Goals as goal
 
 pub returns-in-Refused : goal.returns-in-Refused
 returns-in-Refused c =
-    let t = c in
-    let st = t in
-    refused_first (both (shape_tests st.args.ws.now) (shape_tests st.args.vs.now)) t.shapes_refusal-tested.result _ t.shapes_refusal-tested.ensures
+    refused_first (both (shape_tests c.args.ws.now) (shape_tests c.args.vs.now)) c.shapes_refusal-tested.result _ c.shapes_refusal-tested.ensures
     c.in-Refused.is _ refl refl
 
 pub write_shape-requires : goal.write_shape-requires
 write_shape-requires c =
-    let k = c in
-    let g = k.shapes_refusal-tested in
-    let a = k.args in
+    let g = c.shapes_refusal-tested in
+    let a = c.args in
     let s = c.read_shape-s in
     let t = c.read_shape-t in
-    let e = each_accepted a.ws.now a.vs.now (no_refusal g.result _ k.in_default.in_default-own.keys2 g.ensures) in
+    let e = each_accepted a.ws.now a.vs.now (done_none c.in_default.field-0 _ c.in_default.ensures) in
     let S = shape_read a.ws.now e.0 s.result s.ensures in
     let R = shape_read a.vs.now e.1 t.result t.ensures in
     made_returned _ (S.sound, R.sound) _ c.joined-new.result c.joined-new.ensures
@@ -35,12 +31,11 @@ returns c =
     let m = c.joined-new in
     let t = c.read_shape-t in
     let s = c.read_shape-s in
-    let k = c in
-    let g = k.shapes_refusal-tested in
-    let a = k.args in
+    let g = c.shapes_refusal-tested in
+    let a = c.args in
     let ws = a.ws.now in
     let vs = a.vs.now in
-    let z = no_refusal g.result _ k.in_default.in_default-own.keys2 g.ensures in
+    let z = done_none c.in_default.field-0 _ c.in_default.ensures in
     let w = c.write_shape in
     let both_read = each_accepted ws vs z in
     let S = shape_read ws both_read.0 s.result s.ensures in

@@ -3,11 +3,10 @@ use mir.Syntax.{w32}
 use mir.ValLaws.{to_z-of_z}
 use mathlib.Core.List.{map}
 use mathlib.Core.Path.{refl, subst}
-use borrow.Author.Rules.{rules}
-use Rattle.words.proofs.Tested.{no_refusal, refused_first}
+use Rattle.words.proofs.Tested.{refused_first}
 use Rattle.shape_calls.proofs.Reading.{shape_read}
 use Rattle.shape_calls.proofs.Calls.{made_returned, map_points, shape_clear, list_made}
-use Rattle.words.proofs.Refusals.{promised_rest}
+use Rattle.words.proofs.Refusals.{done_none, promised_rest}
 use Rattle.elements.specs.Standing.{Made, Sound, points_of}
 use Rattle.shapes.specs.Shape.{shape_points, shape_tests}
 use Rattle.shapes.specs.Calls.{moved_points}
@@ -16,32 +15,27 @@ use Rattle.shape_calls.proofs.move_shape.Goals as goal
 
 pub returns-in-Refused : goal.returns-in-Refused
 returns-in-Refused c =
-    let t = c in
-    let st = t in
-    refused_first (shape_tests st.args.ws.now) t.shape_refusal-tested.result _ t.shape_refusal-tested.ensures c.in-Refused.is _ refl refl
+    refused_first (shape_tests c.args.ws.now) c.shape_refusal-tested.result _ c.shape_refusal-tested.ensures c.in-Refused.is _ refl refl
 
 pub write_shape-requires : goal.write_shape-requires
 write_shape-requires c =
-    let k = c in
-    let g = k.shape_refusal-tested in
+    let g = c.shape_refusal-tested in
     let s = c.read_shape-s in
-    let S = shape_read k.args.ws.now (no_refusal g.result _ k.in_default.in_default-own.keys2 g.ensures) s.result s.ensures in
+    let S = shape_read c.args.ws.now (done_none c.in_default.field-0 _ c.in_default.ensures) s.result s.ensures in
     made_returned _ S.sound _ c.moved-new.result c.moved-new.ensures
 
 pub returns : goal.returns
 returns c =
     let m = c.moved-new in
     let s = c.read_shape-s in
-    let k = c in
-    let t = k.shape_refusal-tested in
-    let st = k in
-    let a = st.args in
+    let t = c.shape_refusal-tested in
+    let a = c.args in
     let ws = a.ws.now in
-    let z = no_refusal t.result _ k.in_default.in_default-own.keys2 t.ensures in
+    let z = done_none c.in_default.field-0 _ c.in_default.ensures in
     let w = c.write_shape in
     let S = shape_read ws z s.result s.ensures in
     let M = subst (λ (d : Point). Made (Sound s.result) (map (λ p. p +ᵖ d) (points_of s.result)) m.result)
-    (λ i. (to_z-of_z w32 a.dx st.ranges.dx i, to_z-of_z w32 a.dy st.ranges.dy i)) m.ensures in
+    (λ i. (to_z-of_z w32 a.dx c.ranges.dx i, to_z-of_z w32 a.dy c.ranges.dy i)) m.ensures in
     let e = map_points (λ p. p +ᵖ (a.dx, a.dy)) (points_of s.result) (shape_points ws) S.points in
     promised_rest (shape_tests ws) _ (shape_clear ws z)
     (list_made (Sound s.result) S.sound _ m.result M (moved_points ws (a.dx, a.dy)) a.out.now w.result _ e w.ensures)

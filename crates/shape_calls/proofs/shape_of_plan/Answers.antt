@@ -1,23 +1,20 @@
 -- A refused plan is refused; else the shape of its points is written.
 use mathlib.Core.Logic.{inl}
 use mathlib.Core.Path.{refl}
-use borrow.Author.Rules.{rules}
-use Rattle.words.proofs.Tested.{no_refusal, refused_first}
-use Rattle.words.proofs.Refusals.{promised_rest}
+use Rattle.words.proofs.Tested.{refused_first}
+use Rattle.words.proofs.Refusals.{done_none, promised_rest}
 use Rattle.shape_calls.proofs.Calls.{plan_clear, list_stands}
 use Rattle.shapes.specs.Plan.{plan_tests, plan_points}
 use Rattle.shape_calls.proofs.shape_of_plan.Goals as goal
 
 pub returns-in-Refused : goal.returns-in-Refused
 returns-in-Refused c =
-    let t = c in
-    let st = t in
-    refused_first (plan_tests st.args.ws.now) t.plan_refusal-tested.result _ t.plan_refusal-tested.ensures c.in-Refused.is _ refl refl
+    refused_first (plan_tests c.args.ws.now) c.plan_refusal-tested.result _ c.plan_refusal-tested.ensures c.in-Refused.is _ refl refl
 
 pub read_plan-s-requires : goal.read_plan-s-requires
 read_plan-s-requires c =
     let t = c.plan_refusal-tested in
-    no_refusal t.result _ c.in_default.in_default-own.keys2 t.ensures
+    done_none c.in_default.field-0 _ c.in_default.ensures
 
 pub write_shape-requires : goal.write_shape-requires
 write_shape-requires c = inl c.read_plan-s.ensures.sound
@@ -25,11 +22,10 @@ write_shape-requires c = inl c.read_plan-s.ensures.sound
 pub returns : goal.returns
 returns c =
     let s = c.read_plan-s in
-    let k = c in
-    let t = k.plan_refusal-tested in
-    let a = k.args in
+    let t = c.plan_refusal-tested in
+    let a = c.args in
     let ws = a.ws.now in
-    let z = no_refusal t.result _ k.in_default.in_default-own.keys2 t.ensures in
+    let z = done_none c.in_default.field-0 _ c.in_default.ensures in
     let w = c.write_shape in
     promised_rest (plan_tests ws) _ (plan_clear ws z)
     (list_stands s.result (plan_points ws) a.out.now w.result _ s.ensures.sound.fits s.ensures.points w.ensures)

@@ -1,9 +1,5 @@
 -- Nothing has to hold from turn to turn. The measure is the number of turns that are left.
-use native.Mathlib.Omega.{arith}
 use Rattle.shapeplan.proofs.read_all.Given as goal
 
-abbrev pub invariant-loop-turns : goal.invariant-loop-turns
-invariant-loop-turns l = Unit {0}
-
 abbrev pub decreases-loop-turns : goal.decreases-loop-turns
-decreases-loop-turns l = l.turns
+decreases-loop-turns g l = l.turns

@@ -1,5 +1,4 @@
 -- The tests in turn, each of them a part of what `tested` computes.
-use borrow.Author.Rules.{rules}
 use borrow.Author.Tests.{eq-eqb, ne_eqb}
 use mathlib.Core.Path.{sym, ◌∙◌}
 use Rattle.stage_steps.proofs.Stages.{stage_is, stage_large}

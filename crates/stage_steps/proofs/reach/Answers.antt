@@ -1,5 +1,4 @@
 -- Each arm of `reach`, by the tests that lead to it.
-use borrow.Author.Rules.{rules}
 use borrow.Author.Tests.{le-leb, lt-leb, lt-ltb, le-ltb}
 use Rattle.stage_steps.proofs.reach.Goals as goal
 

@@ -1,5 +1,4 @@
 -- The answer so far, by its case, and the test.
-use borrow.Author.Rules.{rules}
 use Rattle.words.proofs.Refusals.{tried_refused, tried_holds, tried_fails}
 use Rattle.words.proofs.tried.Goals as goal
 
