@@ -1,31 +1,27 @@
 -- A frame that is packed: its planes show both levels of the grid that it is put into.
-use mathlib.Core.Path.{◌≡◌, sym, ◌∙◌, ap, subst, fun_ext}
+use mathlib.Core.Path.{◌≡◌, sym, ◌∙◌, subst, fun_ext}
 use mathlib.Core.Bool.{Bool, true, false}
 use mathlib.Core.List.{List}
-use Prim.Native.Nat.{ℕ, ◌+◌, ◌-◌, ◌*◌, ◌≤◌}
+use Prim.Native.Nat.{ℕ, ◌+◌, ◌-◌, ◌≤◌}
 use native.Mathlib.Omega.{arith}
 use lib.Dec.{T}
-use lib.IntN.{pos}
-use lib.ListN.{length, get_or, drop}
+use lib.ListN.{length, get_or}
 use borrow.Rule.Slice.PartMut.{mid_of, put_mid, mid_len}
-use Rattle.plane.specs.Point.{Point, ◌-ᵖ◌}
-use Rattle.grids.specs.Image.{view}
-use Rattle.grids.specs.Frame.{grid_size, full, highest}
-use Rattle.grids.specs.Grid.{outside_of, corner, grid_bytes, put}
+use Rattle.plane.specs.Point.{Point}
+use Rattle.grids.specs.Frame.{full}
+use Rattle.grids.specs.Grid.{outside_of, grid_bytes, put}
 use Rattle.grids.specs.declared.Around.{Around}
 use Rattle.grids.specs.declared.Around.TheVariants.{Free, Occupied}
-use Rattle.grids.proofs.Values.{Upto}
 use Rattle.grids.proofs.Putting.{put_upto}
 use Rattle.grids.proofs.Stage.{outside_low}
 use Rattle.frame_grounds.proofs.Sides.{sides}
 use Rattle.planes.specs.Bits.{level}
-use Rattle.planes.specs.Planes.{plane_size, Shows, PlaneOnly, level_bits, place_of, far_of, pack_fits, FramePacked, Packed}
+use Rattle.planes.specs.Planes.{plane_size, Shows, place_of, far_of, pack_fits, FramePacked, Packed}
 use Rattle.planes.proofs.Levels.{level_low}
 use Rattle.planes.proofs.OnGrids.{packed_grid, planes_fit, kept_drop, grid_pack, shows_front}
 use Rattle.cleaning.specs.declared.Operation.{Operation}
 use Rattle.cleaning.specs.Operation.{around}
 use Rattle.turn_steps.proofs.Alternating.{kept_past}
-use Rattle.result_steps.specs.Levels.{Behind}
 use Rattle.ranges.proofs.Tails.{put_tail}
 use Rattle.result_steps.proofs.Behind.{behind}
 use Rattle.clean_calls.specs.Packing.{FramePackable, FrameShown, SecondPacked, LevelsPacked}

@@ -31,7 +31,7 @@ use Rattle.cleaning.proofs.Starts.{over_length, over_past, frame_in_grid, hand, 
 use Rattle.cleaning.proofs.Upto.{last_upto}
 use Rattle.turn_steps.specs.Turns.{standing_image}
 use Rattle.turn_steps.proofs.Alternating.{either, same_either, same_of}
-use Rattle.result_steps.specs.Cutting.{distance, Room, CutAway}
+use Rattle.result_steps.specs.Cutting.{distance, CutAway}
 use Rattle.result_steps.specs.Levels.{LevelsEnded}
 use Rattle.result_steps.specs.Running.{Runnable}
 use Rattle.result_steps.proofs.Reading.{cut_turn}

@@ -1,7 +1,7 @@
 -- Rows of one end, written into a part of the kept frame; and that both ends are ready to be.
 use mathlib.Core.Path.{◌≡◌, refl, sym, ◌∙◌, ap, subst}
 use mathlib.Core.Logic.{◌⊎◌, inl, inr}
-use mathlib.Core.Bool.{false, not}
+use mathlib.Core.Bool.{not}
 use mathlib.Core.List.{List}
 use Prim.Native.Nat.{ℕ, ◌+◌, ◌-◌, ◌*◌, ◌≤◌, ◌<◌}
 use native.Mathlib.Omega.{arith}
@@ -12,7 +12,7 @@ use lib.Dec.{T, ltb}
 use lib.ListN.{length, get_or, take, drop, get_or-eq_default}
 use Rattle.shapes.specs.Plan.{plan_masks, plan_offset}
 use Rattle.plan_grounds.proofs.Accepted.{plan_length, place_small}
-use Rattle.grids.specs.Frame.{highest, bad_size, bad_cell}
+use Rattle.grids.specs.Frame.{highest, bad_cell}
 use Rattle.ranges.specs.Ranges.{Ranged}
 use Rattle.ranges.proofs.Ranges.{ranged_part}
 use Rattle.cleaning.specs.Operation.{in_turn}

@@ -7,7 +7,6 @@ use Rattle.cleaning.specs.Cleaning.{operation_tests}
 use Rattle.clean_calls.proofs.Accepted.{few_stages}
 use Rattle.clean_calls.proofs.Working.{plan_accepted, packable, runs, ran}
 use native.Mathlib.Omega.{arith}
-use borrow.Author.Rules.{rules}
 use Rattle.clean_calls.proofs.clean.Goals as goal
 
 pub returns-in-Refused : goal.returns-in-Refused

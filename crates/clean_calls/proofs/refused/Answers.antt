@@ -1,5 +1,4 @@
 -- A refused plan is refused; else the frame and the images decide.
-use borrow.Author.Rules.{rules}
 use mathlib.Core.Path.{sym, ◌∙◌, ap}
 use Rattle.words.specs.Ground.{refusal, first_of}
 use Rattle.words.proofs.Refusals.{rest_append, done_none}

@@ -1,5 +1,4 @@
 -- One end, and then the other.
-use borrow.Author.Rules.{rules}
 use Rattle.rolling_calls.proofs.Putting.{first_ready, last_ready, both_put}
 use Rattle.rolling_calls.proofs.anew.Goals as goal
 

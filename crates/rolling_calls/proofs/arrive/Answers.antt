@@ -1,6 +1,4 @@
 -- A refusal is the answer, and nothing was written; else the row arrives, and the kept frame is brought up to date.
-use native.Mathlib.Omega.{arith}
-use borrow.Author.Rules.{rules}
 use mathlib.Core.Path.{refl}
 use Rattle.words.proofs.Refusals.{done_none, promised_done}
 use Rattle.words.proofs.Tested.{refused_call}

@@ -1,6 +1,5 @@
 -- The rows of the part are worked out into a part of the kept frame.
 use native.Mathlib.Omega.{arith}
-use borrow.Author.Rules.{rules}
 use Rattle.rolling_calls.proofs.Putting.{before_rows, rows_end, rows_room, end_part, end_put}
 use Rattle.rolling_calls.proofs.end.Goals as goal
 

@@ -1,5 +1,4 @@
 -- Each arm of the match is one operation, and its kind of grid.
-use borrow.Author.Rules.{rules}
 use Rattle.cleaning.specs.declared.Operation.TheVariants.{Dilation, Erosion, Opening, Closing}
 use Rattle.clean_calls.proofs.Packed.{by_kind}
 use Rattle.clean_calls.proofs.packing.level.Goals as goal

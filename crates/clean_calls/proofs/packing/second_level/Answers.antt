@@ -1,12 +1,8 @@
 -- The second level is packed into the last part of the image.
-use mathlib.Core.Path.{◌≡◌}
-use Prim.Native.Nat.{◌+◌}
 use Rattle.frame_grounds.proofs.Sides.{sides}
-use Rattle.planes.specs.Planes.{plane_size}
 use Rattle.cleaning.specs.Operation.{around}
 use Rattle.result_steps.proofs.Rooms.{plane_is}
 use Rattle.clean_calls.proofs.Packed.{second_starts, tail_packs, second_packed}
-use borrow.Author.Rules.{rules}
 use Rattle.clean_calls.proofs.packing.second_level.Goals as goal
 
 pub slice_bounds-level-count : goal.slice_bounds-level-count
