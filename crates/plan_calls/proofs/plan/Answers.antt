@@ -1,5 +1,4 @@
 -- A refused list is refused, then a short output; else the shape's cells are searched, and the plan is written or there is no chain.
-use borrow.Author.Rules.{rules}
 use borrow.Author.Tests.{not-true, not-false}
 use mathlib.Core.Logic.{inl, inr}
 use mathlib.Core.Path.{refl}

@@ -1,8 +1,8 @@
 use mathlib.Core.Path.{◌≡◌, refl, ◌∙◌}
 use native.Mathlib.Omega.{arith}
-use Prim.Native.Nat.{◌-◌, ◌+◌, ◌≤◌}
-use lib.ListN.{length, length-set, get_or}
-use Rattle.plan_calls.proofs.Words.{WrittenTo, stage_more, all_written}
+use Prim.Native.Nat.{◌-◌, ◌+◌}
+use lib.ListN.{length-set, get_or}
+use Rattle.plan_calls.proofs.Words.{stage_more, all_written}
 use Rattle.plan_calls.proofs.write_plan.Goals as goal
 
 pub loop-i-preserved : goal.loop-i-preserved

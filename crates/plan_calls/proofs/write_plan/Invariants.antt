@@ -1,11 +1,8 @@
 -- The invariant: out holds the head, the place and the first i stages, and past them what it held.
-use borrow.Author.Rules.{rules}
-use mathlib.Core.Path.{◌≡◌, refl, ◌∙◌}
-use native.Mathlib.Omega.{arith}
-use Prim.Native.Nat.{◌-◌, ◌+◌, ◌≤◌}
-use lib.ListN.{length, length-set, get_or}
-use Rattle.rows.proofs.Known.{field_below}
-use Rattle.plan_calls.proofs.Words.{WrittenTo, still_room, kept_length, started, stage_more, all_written}
+use mathlib.Core.Path.{◌≡◌}
+use Prim.Native.Nat.{◌-◌, ◌≤◌}
+use lib.ListN.{length}
+use Rattle.plan_calls.proofs.Words.{WrittenTo}
 use Rattle.plan_calls.proofs.write_plan.Given as goal
 
 abbrev pub invariant-loop-i : goal.invariant-loop-i

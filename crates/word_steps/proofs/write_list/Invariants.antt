@@ -1,12 +1,7 @@
 -- The invariant: out is the list of the rows before y, and past its n words as it was. The measure: the rows left.
-use mathlib.Core.Path.{◌∙◌}
-use mathlib.Core.Logic.{⊎_elim}
 use Prim.Native.Nat.{◌-◌, ◌≤◌}
-use native.Mathlib.Omega.{arith}
-use lib.ListN.{length, length-set}
-use borrow.Author.Rules.{rules}
-use Rattle.rows.proofs.Known.{rows16}
-use Rattle.lists.proofs.Written.{Writing, writing_first, writing_row, writing_skip, writing_done, writing_none}
+use lib.ListN.{length}
+use Rattle.lists.proofs.Written.{Writing}
 use Rattle.word_steps.proofs.write_list.Given as goal
 
 abbrev pub invariant-loop-y : goal.invariant-loop-y
