@@ -1,5 +1,4 @@
 -- Each arm of the match is the call of one operation.
-use borrow.Author.Rules.{rules}
 use Rattle.claim_calls.proofs.Stepped.{called_as}
 use Rattle.claim_calls.proofs.operate.Goals as goal
 

@@ -1,5 +1,4 @@
 -- What was done call by call keeps the claim.
-use borrow.Author.Rules.{rules}
 use mathlib.Core.Path.{refl}
 use Rattle.claim.proofs.Claimed.{claimed, lent}
 use Rattle.claim_calls.proofs.run.Goals as goal

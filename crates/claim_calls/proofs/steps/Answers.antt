@@ -1,5 +1,4 @@
 -- A refusal of planning is the answer; else the operation is called on the words written.
-use borrow.Author.Rules.{rules}
 use native.Mathlib.Omega.{arith}
 use Rattle.claim_calls.proofs.Stepped.{stopped, went_on, words_there}
 use Rattle.claim_calls.proofs.steps.Goals as goal
