@@ -12,6 +12,6 @@ returns c =
     let st = c in
     let a = st.args in
     let m = c.move_shape in
-    let kept = subst (λ (d : Point). Moved a.shape.now d a.out.now m.result m.new.1.1.1.0)
+    let kept = subst (λ (d : Point). Moved a.shape.now d a.out.now m.result m.new.out)
     (λ i. (to_z-of_z w32 a.dx st.ranges.dx i, to_z-of_z w32 a.dy st.ranges.dy i)) m.ensures in
     record { answer = m.result; number = search rules; kept = kept }

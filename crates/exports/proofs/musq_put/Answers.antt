@@ -8,7 +8,7 @@ pub returns : goal.returns
 returns c =
     let a = c.args in
     let p = c.put in
-    let kept = subst (λ k. FramePut k a.w a.h a.frame.now a.image.now p.result p.new.1.1.1.1.0)
+    let kept = subst (λ k. FramePut k a.w a.h a.frame.now a.image.now p.result p.new.image)
     c.around_of.ensures
     p.ensures in
     record { answer = p.result; number = search rules; kept = kept }

@@ -11,6 +11,6 @@ returns c =
     let p = c.stage in
     let kept =
     subst
-    (λ k. Staged (erodes a.erode) k a.word a.w a.h a.from.now a.to.now p.result p.new.1.1.1.1.1.1.0)
+    (λ k. Staged (erodes a.erode) k a.word a.w a.h a.from.now a.to.now p.result p.new.to)
     c.around_of-kind.ensures p.ensures in
     record { answer = p.result; number = search rules; kept = kept }
