@@ -3,13 +3,10 @@ use Prim.Native.Nat.{◌-◌}
 use mathlib.Core.Path.{refl}
 use Rattle.rows.specs.Cells.{At}
 use Rattle.rows.proofs.Known.{rows16}
-use Rattle.rows.proofs.Sums.{in_y, row_cell}
-use Rattle.extents.proofs.Search.{below_less, below_found, below_done, row_clear}
+use Rattle.rows.proofs.Sums.{row_cell}
+use Rattle.extents.proofs.Search.{below_found}
 use Rattle.extents.specs.Extents.{row}
 use Rattle.extent_steps.proofs.last_row.Goals as goal
-
-pub loop-last-init : goal.loop-last-init
-loop-last-init c = (omega arith, record { below = in_y c.args.a (rows16 c.args.a _ c.well_formed.0) })
 
 pub returns-then-a-last-ne0 : goal.returns-then-a-last-ne0
 returns-then-a-last-ne0 c =
@@ -18,14 +15,3 @@ returns-then-a-last-ne0 c =
     let a = st.args.a in
     let g = row_cell a (rows16 a _ st.well_formed.0) (h.last - 1) c.if-a-last-ne0.true in
     below_found row (At a) h.last (h.last - 1) g.0 (h.last - 1) (omega arith) h.invariant.1 g.1 refl
-
-pub loop-last-preserved : goal.loop-last-preserved
-loop-last-preserved c =
-    let st = c in
-    let h = c.loop-last in
-    (omega arith, below_less row (At st.args.a) h.last (h.last - 1) (omega arith) h.invariant.1 (row_clear st.args.a (h.last - 1) c.if-a-last-ne0.false))
-
-pub returns : goal.returns
-returns c =
-    let h = c.loop-last in
-    below_done row (At c.args.a) h.last c.loop-last-test.false h.invariant.1

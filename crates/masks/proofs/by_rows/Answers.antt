@@ -1,19 +1,10 @@
 use native.Mathlib.Omega.{arith}
-use mathlib.Core.Path.{◌≡◌, refl, sym, ap, ◌∙◌}
-use Rattle.masks.proofs.Shifts.{rows_down, row_step, row_stop, rows_zero}
+use mathlib.Core.Path.{refl, sym, ◌∙◌}
+use Rattle.masks.proofs.Shifts.{row_step, row_stop}
 use Rattle.masks.proofs.by_rows.Goals as goal
 
 pub loop-m-init : goal.loop-m-init
 loop-m-init c = (c.requires, refl)
-
-pub returns-then-m-eq0 : goal.returns-then-m-eq0
-returns-then-m-eq0 c =
-    let l = c.loop-m in
-    let e : 0 ≡ l.m = omega (arith, c.loop-m-test.true, c.if-m-eq0.true) in
-    (sym rows_zero ∙ ap rows_down e ∙ l.invariant.1, omega arith)
-
-pub loop-m-smaller : goal.loop-m-smaller
-loop-m-smaller c = let n = c.if-m-eq0.false in omega arith
 
 pub loop-m-preserved : goal.loop-m-preserved
 loop-m-preserved c =
