@@ -13,7 +13,7 @@ use Rattle.plane.specs.Lists.{In}
 use Rattle.plane.specs.Point.{Point}
 use Rattle.plane.proofs.Tests.{T_and, T_dec}
 use Rattle.words.specs.Ground.{first_of}
-use Rattle.words.specs.declared.Answer.{Answer}
+use Rattle.words.specs.Ground.{Answer}
 use Rattle.words.proofs.Refusals.{clear}
 use Rattle.shapes.specs.Plan.{plan_points, plan_masks, plan_tests, wrong_masks}
 use Rattle.rolling.specs.Rolling.{rolled, greatest_y, farther, arrival_tests, Arrived}

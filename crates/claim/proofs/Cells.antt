@@ -1,4 +1,5 @@
 -- What putting, the single stage and the load promise, said of points: a grid with the cells of a picture is the picture at its plane cells.
+use Rattle.std.specs.Prelude.{Ok, Err}
 use mathlib.Core.Path.{◌≡◌, refl, sym, ◌∙◌, ap, ap₂, subst, fun_ext}
 use mathlib.Core.Bool.{Bool, true, false}
 use mathlib.Core.List.{List}
@@ -14,17 +15,15 @@ use Rattle.plane.proofs.Algebra.{+ᵖ_origin}
 use Rattle.plane.proofs.Tests.{not_or, un_not}
 use Rattle.words.specs.Ground.{first_of, stated, result}
 use Rattle.words.specs.Word.{stage_mask}
-use Rattle.words.specs.declared.Answer.{Answer}
+use Rattle.words.specs.Ground.{Answer}
 use Rattle.words.proofs.Refusals.{clear, ground_small}
 use Rattle.masks.specs.Mask.{mask_points}
 use Rattle.grids.specs.Frame.{over, frame, grid_size, short_image, frame_tests, load, LoadCounted}
 use Rattle.grids.specs.Grid.{outside_of, corner, grid, laid, put, written, put_tests, FramePut, stage_tests, Staged}
 use Rattle.grids.specs.Rules.{Gives}
-use Rattle.grids.specs.Share.{measured, share_tests, TenThousandths, Shared}
+use Rattle.grids.specs.Share.{ShareAnswer, exact, measured, share_tests, TenThousandths, Shared}
 use Rattle.grids.specs.declared.Around.{Around}
 use Rattle.grids.specs.declared.Around.TheVariants.{Free, Occupied}
-use Rattle.grids.specs.declared.Share.{Share}
-use Rattle.grids.specs.declared.Share.TheVariants.{Exact, Refused}
 use Rattle.grids.proofs.Load.{load_points, measured_points_lem}
 use Rattle.grids.proofs.Pictures.{get_d_cells, length_cells}
 use Rattle.grids.proofs.Rules.{over_makes}
@@ -140,13 +139,13 @@ share_counts W H f e =
     let l = eqb→eq (length f) (W * H) (un_not (eqb (length f) (W * H)) c.1.0) in
     (load_points W H f l, measured_points_lem W H f l)
 
-pub share_shown : (W H : ℕ) (f : List ℕ) (a : Share) → Shared W H f a → first_of (share_tests W H f) ≡ 0
+pub share_shown : (W H : ℕ) (f : List ℕ) (a : ShareAnswer) → Shared W H f a → first_of (share_tests W H f) ≡ 0
     → ShareShows (occupied_points W H f) (measured_points W H f) a
 share_shown W H f a p e = subst (λ n. ShareShows n (measured_points W H f) a) c.0 (subst (λ m. ShareShows (load f) m a) c.1 (go a (p.done e)))
   where
     c : (load f ≡ occupied_points W H f) × (measured f ≡ measured_points W H f)
     c = share_counts W H f e
 
-    go : (a : Share) → TenThousandths f a → ShareShows (load f) (measured f) a
-    go (Exact q r) t = record { quotient = q; remainder = r; answer = refl; whole = t.whole; below = t.below }
-    go (Refused g) t = absurd (let l = (ground_small g).0 in omega (arith, t.answer))
+    go : (a : ShareAnswer) → TenThousandths f a → ShareShows (load f) (measured f) a
+    go (Ok s) t = record { quotient = s.quotient; remainder = s.remainder; answer = refl; whole = t.whole; below = t.below }
+    go (Err g) t = absurd (let l = (ground_small g).0 in omega (arith, t.answer))

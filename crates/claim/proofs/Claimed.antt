@@ -10,7 +10,7 @@ use lib.ListN.{length, take, drop}
 use borrow.Author.Tests.{ne_eqb}
 use Rattle.plane.proofs.Tests.{T_dec, clash, eq-eqb, not_ltb}
 use Rattle.words.specs.Ground.{first_of, stated, refusal}
-use Rattle.words.specs.declared.Answer.{Answer}
+use Rattle.words.specs.Ground.{Answer}
 use Rattle.words.proofs.Refusals.{clear, unclear, clear_append, first_append, rest_append}
 use Rattle.shapes.specs.Calls.{short_output}
 use Rattle.shapes.specs.Plan.{plan_words, plan_tests}

@@ -5,7 +5,7 @@ use mathlib.Core.Bool.{not}
 use mathlib.Core.List.{List}
 use Prim.Native.Nat.{ℕ}
 use lib.Dec.{T, eqb, eqb→eq}
-use Rattle.words.specs.declared.Answer.{Answer}
+use Rattle.words.specs.Ground.{Answer}
 use Rattle.plane.proofs.Tests.{T_dec, clash, eq-eqb}
 use Rattle.words.specs.Ground.{Test, first_of, stated, result, Answered}
 use Rattle.words.proofs.Tested.{promised_number}

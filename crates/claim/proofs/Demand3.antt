@@ -6,7 +6,7 @@ use mathlib.Core.List.{List}
 use Prim.Native.Nat.{ℕ, ◌+◌}
 use native.Mathlib.Omega.{arith}
 use lib.ListN.{length, take}
-use Rattle.words.specs.declared.Answer.{Answer}
+use Rattle.words.specs.Ground.{Answer}
 use Rattle.cleaning.specs.declared.Operation.{Operation}
 use Rattle.plane.specs.Lists.{In}
 use Rattle.plane.specs.Point.{Point}

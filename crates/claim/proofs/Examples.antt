@@ -11,7 +11,7 @@ use Rattle.plane.specs.Lists.{In}
 use Rattle.plane.specs.Point.{◌+ᵖ◌, ◌-ᵖ◌, negᵖ, origin}
 use Rattle.plane.proofs.Algebra.{≐_trans, ≐_sym}
 use Rattle.words.specs.Ground.{stated, result, refusal}
-use Rattle.words.specs.declared.Answer.{Answer}
+use Rattle.words.specs.Ground.{Answer}
 use Rattle.masks.specs.Chain.{Chain, subset}
 use Rattle.masks.specs.Mask.{mask_cells, mask_points, normal_of, NormalPosition}
 use Rattle.masks.proofs.Normal.{normal_position}

@@ -10,16 +10,14 @@ use lib.ListN.{get_or, replicate}
 use Rattle.plane.specs.Lists.{In}
 use Rattle.plane.specs.Point.{Point, PointSet, ◌+ᵖ◌, negᵖ, ◌-ᵖ◌}
 use Rattle.words.specs.Ground.{stated, result}
-use Rattle.words.specs.declared.Answer.{Answer}
+use Rattle.words.specs.Ground.{Answer}
 use Rattle.masks.specs.Mask.{stage, mask_cells, mask_points}
 use Rattle.shapes.specs.Plan.{plan_points, plan_tests}
 use Rattle.grids.specs.Frame.{free, full, frame, frame_tests, LoadCounted}
 use Rattle.grids.specs.Grid.{put_tests, FramePut, stage_tests, Staged, work_tests}
 use Rattle.grids.specs.Image.{cells, value_at}
-use Rattle.grids.specs.Share.{told, share_tests, Shared}
+use Rattle.grids.specs.Share.{ShareAnswer, exact, told, share_tests, Shared}
 use Rattle.grids.specs.declared.Around.TheVariants.{Free, Occupied}
-use Rattle.grids.specs.declared.Share.{Share}
-use Rattle.grids.specs.declared.Share.TheVariants.{Exact}
 use Rattle.cleaning.specs.Cleaning.{part, Cleaned}
 use Rattle.cleaning.specs.declared.Operation.TheVariants.{Erosion, Opening}
 use Rattle.rolling.specs.Claim.{all_free, Arrivals, Right, takes_row}
@@ -42,12 +40,12 @@ put_refused D r i' p =
     let d = D.putting Free 1 1 (3 ∷ []) (replicate 256 7) r i' p in
     (d.0, d.1 (λ z. let n : ◌≡◌ {A = ℕ} 13 0 = sym d.0 ∙ z in omega arith))
 
-share_refused : Demand1 → (a : Share) → Shared 1 1 (3 ∷ []) a → (told a).0 ≡ 13
+share_refused : Demand1 → (a : ShareAnswer) → Shared 1 1 (3 ∷ []) a → (told a).0 ≡ 13
 unfolding share_tests
 share_refused D a p = D.sharing 1 1 (3 ∷ []) a p
 
 -- a frame that was not measured has no share, but a load
-share_unmeasured : Demand1 → (a : Share) → Shared 1 1 (2 ∷ []) a → (told a).0 ≡ 16
+share_unmeasured : Demand1 → (a : ShareAnswer) → Shared 1 1 (2 ∷ []) a → (told a).0 ≡ 16
 unfolding share_tests
 share_unmeasured D a p = D.sharing 1 1 (2 ∷ []) a p
 
@@ -191,34 +189,34 @@ unfolding frame_tests cells value_at
 counts_two D r p = D.counting 3 1 (1 ∷ 0 ∷ 1 ∷ []) r p refl
 
 -- 20,000 = 6,666 × 3 + 2
-shares_two : Demand2 → (a : Share) → Shared 3 1 (1 ∷ 0 ∷ 1 ∷ []) a → a ≡ Exact 6666 2
+shares_two : Demand2 → (a : ShareAnswer) → Shared 3 1 (1 ∷ 0 ∷ 1 ∷ []) a → a ≡ exact 6666 2
 unfolding share_tests cells value_at
 shares_two D a p =
     let s = D.sharing 3 1 (1 ∷ 0 ∷ 1 ∷ []) a p refl in
     let whole : s.quotient * 3 + s.remainder ≡ 20000 = s.whole in
     let q : s.quotient ≡ 6666 = omega (arith, s.below) in
     let r : s.remainder ≡ 2 = omega (arith, s.below) in
-    s.answer ∙ ap₂ Exact q r
+    s.answer ∙ ap₂ exact q r
 
 -- both of two cells: 10,000, and nothing remains; 9,999 with 2 for the remainder would close as well
-shares_all : Demand2 → (a : Share) → Shared 1 2 (1 ∷ 1 ∷ []) a → a ≡ Exact 10000 0
+shares_all : Demand2 → (a : ShareAnswer) → Shared 1 2 (1 ∷ 1 ∷ []) a → a ≡ exact 10000 0
 unfolding share_tests cells value_at
 shares_all D a p =
     let s = D.sharing 1 2 (1 ∷ 1 ∷ []) a p refl in
     let whole : s.quotient * 2 + s.remainder ≡ 20000 = s.whole in
     let q : s.quotient ≡ 10000 = omega (arith, s.below) in
     let r : s.remainder ≡ 0 = omega (arith, s.below) in
-    s.answer ∙ ap₂ Exact q r
+    s.answer ∙ ap₂ exact q r
 
 -- one of two measured cells, beside one that was not measured: 10,000 = 5,000 × 2
-shares_measured : Demand2 → (a : Share) → Shared 3 1 (1 ∷ 2 ∷ 0 ∷ []) a → a ≡ Exact 5000 0
+shares_measured : Demand2 → (a : ShareAnswer) → Shared 3 1 (1 ∷ 2 ∷ 0 ∷ []) a → a ≡ exact 5000 0
 unfolding share_tests cells value_at
 shares_measured D a p =
     let s = D.sharing 3 1 (1 ∷ 2 ∷ 0 ∷ []) a p refl in
     let whole : s.quotient * 2 + s.remainder ≡ 10000 = s.whole in
     let q : s.quotient ≡ 5000 = omega (arith, s.below) in
     let r : s.remainder ≡ 0 = omega (arith, s.below) in
-    s.answer ∙ ap₂ Exact q r
+    s.answer ∙ ap₂ exact q r
 
 -- the points (0, 0) and (0, 1), and frames of one column: the arriving row is the last
 arrives_last : Demand2 → (r : Answer) (l k : List ℕ) → Arrived below 1 2 (1 ∷ []) (0 ∷ 0 ∷ []) (0 ∷ 0 ∷ []) r l k → get_or l 1 0 ≡ 1

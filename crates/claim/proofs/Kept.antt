@@ -6,8 +6,8 @@ use Prim.Native.Nat.{ℕ, ◌*◌, ◌/◌, ◌%◌}
 use native.Mathlib.Omega.{arith}
 use lib.Dec.{T}
 use lib.ListN.{length, drop}
-use Rattle.words.specs.declared.Answer.{Answer}
-use Rattle.words.specs.declared.Answer.TheVariants.{Done}
+use Rattle.words.specs.Ground.{Answer}
+use Rattle.std.specs.Prelude.{Ok}
 use Rattle.cleaning.specs.declared.Operation.{Operation}
 use Rattle.plane.specs.Point.{Point}
 use Rattle.words.specs.Ground.{Test, first_of, stated, result, Answered}
@@ -24,9 +24,7 @@ use Rattle.planning.specs.Planning.{ShapeSet, planning_tests, Planned, Unplannab
 use Rattle.planning.proofs.Decided.{can_plan, can_refuse}
 use Rattle.grids.specs.Frame.{frame_tests, load}
 use Rattle.grids.specs.Grid.{put_tests, stage_tests, put, once, written, GridWritten, work_tests}
-use Rattle.grids.specs.Share.{told, measured, share_tests, TenThousandths}
-use Rattle.grids.specs.declared.Share.TheVariants as shares
-use Rattle.grids.specs.declared.Share.TheVariants.{Exact}
+use Rattle.grids.specs.Share.{exact, told, measured, share_tests, TenThousandths}
 use Rattle.grids.proofs.Shares.{can_share}
 use Rattle.cleaning.specs.Cleaning.{operation_tests, Ran, Cleaned}
 use Rattle.cleaning.proofs.Kept.{can_clean}
@@ -38,14 +36,14 @@ use Rattle.claim.specs.Kept.{Kept}
 list_kept : (ts : List Test) (A : List Point) (out : List ℕ) → T (known ts) → (r : Answer) × (out' : List ℕ) × ListAnswered ts A out r out'
 list_kept ts A out k =
     can_keep ts k out (λ out'. out' ≡ out) (λ r out'. ListWritten A out r out') refl
-    (λ _. (Done (length l), l ++ drop (length l) out, record { answer = refl; words = refl }))
+    (λ _. (Ok (length l), l ++ drop (length l) out, record { answer = refl; words = refl }))
   where
     l : List ℕ
     l = listed A
 
 grid_kept : (ts : List Test) (W H : ℕ) (g i : List ℕ) → T (known ts) → (r : Answer) × (i' : List ℕ) × Answered ts r (i' ≡ i) (GridWritten W H g i r i')
 grid_kept ts W H g i k =
-    can_keep ts k i (λ i'. i' ≡ i) (λ r i'. GridWritten W H g i r i') refl (λ _. (Done 0, written W H g i, record { answer = refl; image = refl }))
+    can_keep ts k i (λ i'. i' ≡ i) (λ r i'. GridWritten W H g i r i') refl (λ _. (Ok 0, written W H g i, record { answer = refl; image = refl }))
 
 -- ---- planning and cleaning
 
@@ -79,11 +77,11 @@ kept = record {
   planning = plan_kept;
   positioning = λ m. (normal_of (m % 512), normal_position (m % 512) (omega arith));
   counting = λ W H f.
-      let q = can_keep {S = Unit {0}} (frame_tests W H f) tt tt (λ _. Unit {0}) (λ r _. stated r ≡ result (load f)) tt (λ _. (Done (load f), tt, refl)) in
+      let q = can_keep {S = Unit {0}} (frame_tests W H f) tt tt (λ _. Unit {0}) (λ r _. stated r ≡ result (load f)) tt (λ _. (Ok (load f), tt, refl)) in
       (q.0, q.2);
   sharing = λ W H f.
-      let q = can_promise {S = Unit {0}} (λ a k. told a ≡ (k, 0, 0)) shares.Refused (λ _. refl) (share_tests W H f) tt tt (λ _. Unit {0})
-      (λ a _. TenThousandths f a) tt (λ z. (Exact (10000 * load f / measured f) (10000 * load f % measured f), tt, can_share W H f z)) in
+      let q = can_promise {S = Unit {0}} (λ a k. told a ≡ (k, 0, 0)) Err (λ _. refl) (share_tests W H f) tt tt (λ _. Unit {0})
+      (λ a _. TenThousandths f a) tt (λ z. (exact (10000 * load f / measured f) (10000 * load f % measured f), tt, can_share W H f z)) in
       (q.0, q.2);
   putting = λ k W H f i. grid_kept (put_tests W H f i) W H (put k W H f) i tt;
   staging = λ erode k w W H g i. grid_kept (stage_tests w W H g i) W H (once erode k W H (stage_mask w) g) i tt;

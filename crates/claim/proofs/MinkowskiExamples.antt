@@ -12,7 +12,7 @@ use borrow.Author.Tests.{le-ltb}
 use Rattle.plane.specs.Lists.{In}
 use Rattle.plane.specs.Point.{Point, ◌+ᵖ◌, negᵖ, erosion}
 use Rattle.words.specs.Ground.{stated}
-use Rattle.words.specs.declared.Answer.{Answer}
+use Rattle.words.specs.Ground.{Answer}
 use Rattle.masks.specs.Mask.{mask_cells}
 use Rattle.shapes.specs.Plan.{plan_points, plan_tests}
 use Rattle.grids.specs.Grid.{work_tests}

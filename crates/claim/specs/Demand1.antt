@@ -3,16 +3,15 @@
 use Rattle.std.specs.Prelude.{◌≡◌, ◌⊎◌, ◌≢◌, Bool, List, ℕ, ◌%◌, ◌<◌}
 use Rattle.plane.specs.Point.{Point}
 use Rattle.words.specs.Ground.{Test, first_of, stated, refusal}
-use Rattle.words.specs.declared.Answer.{Answer}
+use Rattle.words.specs.Ground.{Answer}
 use Rattle.masks.specs.Chain.{Chain}
 use Rattle.masks.specs.Mask.{NormalPosition}
 use Rattle.shapes.specs.Calls.{Moved, moving_tests, Joined, joining_tests, Summed, summing_tests, TurnedBack, turning_tests}
 use Rattle.planning.specs.Planning.{ShapeSet, member, planning_tests, Planned}
 use Rattle.grids.specs.Frame.{frame_tests, LoadCounted}
 use Rattle.grids.specs.Grid.{put_tests, FramePut, stage_tests, Staged}
-use Rattle.grids.specs.Share.{told, share_tests, Shared}
+use Rattle.grids.specs.Share.{ShareAnswer, told, share_tests, Shared}
 use Rattle.grids.specs.declared.Around.{Around}
-use Rattle.grids.specs.declared.Share.{Share}
 use Rattle.cleaning.specs.Cleaning.{operation_tests, Cleaned}
 use Rattle.cleaning.specs.declared.Operation.{Operation}
 use Rattle.rolling.specs.Rolling.{arrival_tests, Arrived}
@@ -40,7 +39,7 @@ pub record Demand1 : Type 0 where
   -- normal position meets no ground and is lent nothing: every argument is answered by a mask
   pub positioning : (m n : ℕ) → NormalPosition (m % 512) n → n < 512
   pub counting : (W H : ℕ) (f : List ℕ) (r : Answer) → LoadCounted W H f r → (stated r).0 ≡ first_of (frame_tests W H f)
-  pub sharing : (W H : ℕ) (f : List ℕ) (a : Share) → Shared W H f a → (told a).0 ≡ first_of (share_tests W H f)
+  pub sharing : (W H : ℕ) (f : List ℕ) (a : ShareAnswer) → Shared W H f a → (told a).0 ≡ first_of (share_tests W H f)
   pub putting : (k : Around) (W H : ℕ) (f i : List ℕ) (r : Answer) (i' : List ℕ) → FramePut k W H f i r i' → First (put_tests W H f i) r (i' ≡ i)
   pub staging : (erode : Bool) (k : Around) (w W H : ℕ) (g i : List ℕ) (r : Answer) (i' : List ℕ) → Staged erode k w W H g i r i'
       → First (stage_tests w W H g i) r (i' ≡ i)

@@ -7,7 +7,7 @@ use Rattle.plane.specs.Lists.{In}
 use Rattle.plane.specs.Point.{Point, ◌⊕◌, moved}
 use Rattle.words.specs.Ground.{first_of, stated, result}
 use Rattle.words.specs.Word.{stage_mask}
-use Rattle.words.specs.declared.Answer.{Answer}
+use Rattle.words.specs.Ground.{Answer}
 use Rattle.masks.specs.Chain.{sum_of}
 use Rattle.masks.specs.Mask.{mask_points, NormalPosition}
 use Rattle.shapes.specs.Plan.{plan_points, plan_offset, plan_masks}
@@ -15,9 +15,8 @@ use Rattle.shapes.specs.Calls.{Moved, moving_tests, Joined, joining_tests, Summe
 use Rattle.planning.specs.Planning.{ShapeSet}
 use Rattle.grids.specs.Frame.{frame, frame_tests, LoadCounted}
 use Rattle.grids.specs.Grid.{put_tests, FramePut, stage_tests, Staged}
-use Rattle.grids.specs.Share.{share_tests, Shared}
+use Rattle.grids.specs.Share.{ShareAnswer, share_tests, Shared}
 use Rattle.grids.specs.declared.Around.{Around}
-use Rattle.grids.specs.declared.Share.{Share}
 use Rattle.cleaning.specs.Cleaning.{operation_tests, part, Cleaned}
 use Rattle.cleaning.specs.declared.Operation.{Operation}
 use Rattle.rolling.specs.Rolling.{arrival_tests, Arrived}
@@ -52,7 +51,7 @@ pub record Demand2 : Type 0 where
   pub counting : (W H : ℕ) (f : List ℕ) (r : Answer) → LoadCounted W H f r → first_of (frame_tests W H f) ≡ 0
       → stated r ≡ result (occupied_points W H f)
   -- and in ten-thousandths it is that number's, of the points that were measured
-  pub sharing : (W H : ℕ) (f : List ℕ) (a : Share) → Shared W H f a → first_of (share_tests W H f) ≡ 0
+  pub sharing : (W H : ℕ) (f : List ℕ) (a : ShareAnswer) → Shared W H f a → first_of (share_tests W H f) ≡ 0
       → ShareShows (occupied_points W H f) (measured_points W H f) a
   -- an arriving row: what both frames show then
   pub arriving : (plan : List ℕ) (W H : ℕ) (row live kept : List ℕ) (s : Answer) (live' kept' : List ℕ) → Arrived plan W H row live kept s live' kept'

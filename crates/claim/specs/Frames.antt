@@ -3,7 +3,7 @@
 use Rattle.std.specs.Prelude.{◌≡◌, ◌⊎◌, Bool, true, false, List, ℕ, suc, ◌+◌, ◌-◌, ◌*◌, ◌<◌, pos, nat_abs, ◌-ℤ◌, length, get_or, drop}
 use Rattle.plane.specs.Point.{Point, PointSet, ◌+ᵖ◌, ◌-ᵖ◌}
 use Rattle.words.specs.Ground.{stated, result}
-use Rattle.words.specs.declared.Answer.{Answer}
+use Rattle.words.specs.Ground.{Answer}
 use Rattle.grids.specs.Frame.{free, full, frame, grid_size}
 use Rattle.grids.specs.declared.Around.{Around}
 use Rattle.grids.specs.declared.Around.TheVariants.{Free, Occupied}

@@ -3,16 +3,15 @@
 use Rattle.std.specs.Prelude.{◌≡◌, ◌⊎◌, Bool, List, ℕ, ◌%◌}
 use Rattle.plane.specs.Point.{Point}
 use Rattle.words.specs.Ground.{first_of}
-use Rattle.words.specs.declared.Answer.{Answer}
+use Rattle.words.specs.Ground.{Answer}
 use Rattle.masks.specs.Chain.{Chain, Picked}
 use Rattle.masks.specs.Mask.{NormalPosition}
 use Rattle.shapes.specs.Calls.{Moved, Joined, Summed, TurnedBack}
 use Rattle.planning.specs.Planning.{ShapeSet, member, permitted, planning_tests, Planned}
 use Rattle.grids.specs.Frame.{LoadCounted}
 use Rattle.grids.specs.Grid.{FramePut, Staged}
-use Rattle.grids.specs.Share.{Shared}
+use Rattle.grids.specs.Share.{ShareAnswer, Shared}
 use Rattle.grids.specs.declared.Around.{Around}
-use Rattle.grids.specs.declared.Share.{Share}
 use Rattle.cleaning.specs.Cleaning.{Cleaned}
 use Rattle.cleaning.specs.declared.Operation.{Operation}
 use Rattle.rolling.specs.Rolling.{Arrived}
@@ -27,7 +26,7 @@ pub record Kept : Type 0 where
       → (r : Answer) × (out' : List ℕ) × Planned ws out r out'
   pub positioning : (m : ℕ) → (n : ℕ) × NormalPosition (m % 512) n
   pub counting : (W H : ℕ) (f : List ℕ) → (r : Answer) × LoadCounted W H f r
-  pub sharing : (W H : ℕ) (f : List ℕ) → (a : Share) × Shared W H f a
+  pub sharing : (W H : ℕ) (f : List ℕ) → (a : ShareAnswer) × Shared W H f a
   pub putting : (k : Around) (W H : ℕ) (f i : List ℕ) → (r : Answer) × (i' : List ℕ) × FramePut k W H f i r i'
   pub staging : (erode : Bool) (k : Around) (w W H : ℕ) (g i : List ℕ) → (r : Answer) × (i' : List ℕ) × Staged erode k w W H g i r i'
   pub cleaning : (op : Operation) (plan : List ℕ) (W H : ℕ) (f i j : List ℕ)

@@ -4,7 +4,7 @@ use Rattle.std.specs.Prelude.{◌≡◌, true, false, List, [], ◌∷◌, ◌++
 use Rattle.plane.specs.Extent.{width, height}
 use Rattle.plane.specs.Point.{origin}
 use Rattle.words.specs.Ground.{first_of, stated, result, refusal}
-use Rattle.words.specs.declared.Answer.{Answer}
+use Rattle.words.specs.Ground.{Answer}
 use Rattle.masks.specs.Chain.{PlanOf, before}
 use Rattle.shapes.specs.Shape.{shape_points}
 use Rattle.planning.specs.Planning.{ShapeSet, permitted, planning_tests, Planned}

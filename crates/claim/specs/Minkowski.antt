@@ -4,7 +4,7 @@ use Rattle.plane.specs.Lists.{In}
 use Rattle.plane.specs.Point.{Point, PointSet, dilation, erosion, opening, closing}
 use Rattle.words.specs.Ground.{first_of, stated}
 use Rattle.words.specs.Word.{stage_mask}
-use Rattle.words.specs.declared.Answer.{Answer}
+use Rattle.words.specs.Ground.{Answer}
 use Rattle.masks.specs.Mask.{mask_points}
 use Rattle.shapes.specs.Plan.{plan_points}
 use Rattle.grids.specs.Frame.{free, frame, occupied, grid_size}

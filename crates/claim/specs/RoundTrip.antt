@@ -1,7 +1,7 @@
 -- Document 01, "Stages and plans": a plan turned back. What planning wrote for an accepted shape, as many words as the length returned, is turned back without
 -- a refusal, and what is written is exactly the list of the shape's points, with the least anchor.
 use Rattle.std.specs.Prelude.{◌≡◌, List, ℕ, ◌≤◌, length, take}
-use Rattle.words.specs.declared.Answer.{Answer}
+use Rattle.words.specs.Ground.{Answer}
 use Rattle.words.specs.Ground.{first_of, stated}
 use Rattle.shapes.specs.Calls.{ListWritten, TurnedBack}
 use Rattle.shapes.specs.Shape.{shape_points}

@@ -4,15 +4,14 @@ use Rattle.std.specs.Prelude.{◌≡◌, not, List, ℕ, ◌+◌, ◌*◌, ◌<�
 use Rattle.plane.specs.Lists.{In, keep}
 use Rattle.plane.specs.Point.{Point, PointSet, ◌≐◌, moved}
 use Rattle.words.specs.Ground.{stated}
-use Rattle.words.specs.declared.Answer.{Answer}
+use Rattle.words.specs.Ground.{Answer}
 use Rattle.masks.specs.Mask.{mask_points}
 use Rattle.shapes.specs.Listed.{listed}
 use Rattle.shapes.specs.Shape.{shape_points}
 use Rattle.planning.specs.Planning.{ShapeSet}
+use Rattle.grids.specs.Share.{ShareAnswer, exact}
 use Rattle.grids.specs.Frame.{free, full, frame}
 use Rattle.grids.specs.Image.{cells}
-use Rattle.grids.specs.declared.Share.{Share}
-use Rattle.grids.specs.declared.Share.TheVariants.{Exact}
 
 -- ---- lists
 
@@ -47,9 +46,9 @@ measured_points W H f = length (keep (λ p. not (eqb (frame free W H f p) 2)) (c
 
 -- n of m cells in ten-thousandths, as document 02 has it: a quotient and a remainder are answered, quotient × m + remainder = 10,000 × n, and the remainder is
 -- below m
-pub record ShareShows (n m : ℕ) (a : Share) : Type 0 where
+pub record ShareShows (n m : ℕ) (a : ShareAnswer) : Type 0 where
   pub quotient : ℕ
   pub remainder : ℕ
-  pub answer : a ≡ Exact quotient remainder
+  pub answer : a ≡ exact quotient remainder
   pub whole : quotient * m + remainder ≡ 10000 * n
   pub below : remainder < m

@@ -4,7 +4,7 @@ use Rattle.std.specs.Prelude.{◌≡◌, ◌⊎◌, ◌≢◌, cond, List, [], �
 use Rattle.plane.specs.Lists.{In}
 use Rattle.plane.specs.Point.{Point, ◌≐◌, moved}
 use Rattle.words.specs.Ground.{first_of, stated, result, refusal}
-use Rattle.words.specs.declared.Answer.{Answer}
+use Rattle.words.specs.Ground.{Answer}
 use Rattle.masks.specs.Chain.{Chain, Picked, sum_of}
 use Rattle.shapes.specs.Shape.{shape_tests}
 use Rattle.planning.specs.Planning.{ShapeSet, member, permitted, Planned}

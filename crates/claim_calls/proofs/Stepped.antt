@@ -11,8 +11,8 @@ use lib.ListN.{length, take, drop, length-append, length-map}
 use Rattle.plane.proofs.Tests.{T_dec, clash, eq-eqb}
 use Rattle.words.specs.Ground.{first_of, stated}
 use Rattle.words.specs.Word.{stage_word}
-use Rattle.words.specs.declared.Answer.{Answer}
-use Rattle.words.specs.declared.Answer.TheVariants.{Done, Refused}
+use Rattle.words.specs.Ground.{Answer}
+use Rattle.std.specs.Prelude.{Ok, Err}
 use Rattle.words.specs.declared.Ground.{Ground}
 use Rattle.words.proofs.Refusals.{refused_some}
 use Rattle.shapes.specs.Plan.{plan_words}
@@ -29,12 +29,12 @@ called_as {plan = plan} {W = W} {H = H} {f = f} {i = i} {j = j} {r = r} {i' = i'
 -- ---- planning's answer
 
 -- a result has no number of a ground
-done_zero : {r : Answer} {n : ℕ} → r ≡ Done n → (stated r).0 ≡ 0
+done_zero : {r : Answer} {n : ℕ} → r ≡ Ok n → (stated r).0 ≡ 0
 done_zero e = ap (λ a. (stated a).0) e
 
 module _ {ws own own' : List ℕ} (r : Answer) where
   -- where a plan of n words was written, the list has them
-  pub words_there : {n : ℕ} → r ≡ Done n → Planned ws own r own' → n ≤ length own'
+  pub words_there : {n : ℕ} → r ≡ Ok n → Planned ws own r own' → n ≤ length own'
   words_there {n} e p = go (T_dec (eqb (first_of (planning_tests ws own)) 0))
     where
       written : Unplannable ws own r own' ⊎ PlanWritten ws own r own' → n ≤ length own'
@@ -53,7 +53,7 @@ module _ {ws own own' : List ℕ} (r : Answer) where
 
   module _ {op : Operation} {W H : ℕ} {f i j : List ℕ} where
     -- planning refused, and its refusal is the answer
-    pub stopped : {g : Ground} → r ≡ Refused g → Planned ws own r own' → Steps op ws W H f i j own (Refused g) i j
+    pub stopped : {g : Ground} → r ≡ Err g → Planned ws own r own' → Steps op ws W H f i j own (Err g) i j
     stopped {g} e p = record {
       answer = r;
       own' = own';
@@ -63,7 +63,7 @@ module _ {ws own own' : List ℕ} (r : Answer) where
     }
 
     -- planning wrote n words, and the operation was given these
-    pub went_on : {n : ℕ} {s : Answer} {i' j' : List ℕ} → r ≡ Done n → Planned ws own r own' → Cleaned op (take (n - 0) own') W H f i j s i' j'
+    pub went_on : {n : ℕ} {s : Answer} {i' j' : List ℕ} → r ≡ Ok n → Planned ws own r own' → Cleaned op (take (n - 0) own') W H f i j s i' j'
         → Steps op ws W H f i j own s i' j'
     went_on {n} {s} {i'} {j'} e p c = record {
       answer = r;

@@ -11,7 +11,7 @@ use Rattle.plane.specs.Lists.{In}
 use Rattle.plane.proofs.Tests.{T_false, T_true, not_or, un_not}
 use Rattle.words.specs.Ground.{first_of, stated, result}
 use Rattle.words.specs.Word.{place_x, place_y}
-use Rattle.words.specs.declared.Answer.{Answer}
+use Rattle.words.specs.Ground.{Answer}
 use Rattle.words.proofs.Refusals.{Clear, clear, unclear, clear_first, clear_last}
 use Rattle.shapes.specs.Plan.{plan_masks, plan_tests, plan_offset, plan_points}
 use Rattle.grids.specs.Frame.{highest, bad_size, wrong_length, grid_size, short_image}

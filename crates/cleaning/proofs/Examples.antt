@@ -11,7 +11,7 @@ use Rattle.cleaning.specs.declared.Operation.TheVariants.{Dilation, Erosion, Ope
 use Rattle.plane.specs.Lists.{In}
 use Rattle.plane.specs.Point.{Point, PointSet, ◌+ᵖ◌, negᵖ, ◌-ᵖ◌, origin, only}
 use Rattle.words.specs.Ground.{first_of, stated, result, refusal}
-use Rattle.words.specs.declared.Answer.{Answer}
+use Rattle.words.specs.Ground.{Answer}
 use Rattle.masks.specs.Mask.{mask_cells}
 use Rattle.shapes.specs.Plan.{plan_tests, plan_points}
 use Rattle.grids.specs.Frame.{free, full, frame}

@@ -8,8 +8,8 @@ use Prim.Native.Nat.{ℕ, ◌*◌, ◌%◌, ◌≤◌}
 use native.Mathlib.Nat.{mul_comm}
 use lib.Dec.{T, eqb, nltb→le}
 use lib.ListN.{length, drop}
-use Rattle.words.specs.declared.Answer.{Answer}
-use Rattle.words.specs.declared.Answer.TheVariants.{Done}
+use Rattle.words.specs.Ground.{Answer}
+use Rattle.std.specs.Prelude.{Ok}
 use Rattle.cleaning.specs.declared.Operation.{Operation}
 use Rattle.plane.specs.Lists.{In}
 use Rattle.plane.specs.Point.{Point}
@@ -82,7 +82,7 @@ can_clean op plan W H f i j e = go (T_dec even)
     -- two such images, of which the one that is handed back starts with the result, keep the promise
     make : (i' j' : List ℕ) → Past i i' → Past j j' → hand W H (cond even j' i') ≡ r → Promise
     make i' j' p q h = (
-      Done n,
+      Ok n,
       i',
       j',
       record {

@@ -2,7 +2,7 @@
 use Rattle.std.specs.Prelude.{◌≡◌, cond, ◌||◌, List, [], ◌++◌, ℕ, ◌*◌, ◌%◌, ltb, eqb, length, take, drop}
 use Rattle.plane.specs.Lists.{In}
 use Rattle.words.specs.Ground.{Test, stated, result, Answered}
-use Rattle.words.specs.declared.Answer.{Answer}
+use Rattle.words.specs.Ground.{Answer}
 use Rattle.shapes.specs.Plan.{plan_tests, plan_masks, plan_offset, plan_points}
 use Rattle.grids.specs.Frame.{bad_size, grid_size}
 use Rattle.grids.specs.Grid.{work_tests}

@@ -8,7 +8,7 @@ use lib.Dec.{nltb→le}
 use lib.ListN.{length}
 use lib.Seq.{get_or-take}
 use Rattle.plane.proofs.Tests.{T_false, not_or}
-use Rattle.words.specs.declared.Answer.{Answer}
+use Rattle.words.specs.Ground.{Answer}
 use Rattle.words.specs.Ground.{first_of, stated, result}
 use Rattle.words.specs.Word.{stage_mask}
 use Rattle.words.proofs.Refusals.{clear, promised_done}

@@ -9,7 +9,7 @@ use lib.IntN.{pos, negsuc}
 use lib.ListN.{take, drop, replicate}
 use Rattle.plane.specs.Point.{◌+ᵖ◌, negᵖ}
 use Rattle.words.specs.Ground.{first_of, stated, result, refusal}
-use Rattle.words.specs.declared.Answer.{Answer}
+use Rattle.words.specs.Ground.{Answer}
 use Rattle.masks.specs.Mask.{mask_cells, stage}
 use Rattle.grids.specs.Frame.{greater, lesser, frame_tests, load, LoadCounted}
 use Rattle.grids.specs.Grid.{put_tests, work_tests, stage_tests, grid, put, once, FramePut, Staged}

@@ -1,4 +1,5 @@
 -- The load in ten-thousandths: both equations together leave one quotient and one remainder, those of the division, and the promise one answer.
+use Rattle.std.specs.Prelude.{Ok, Err}
 use mathlib.Core.Path.{◌≡◌, refl, sym, ◌∙◌, ap, ap₂, subst}
 use mathlib.Core.Logic.{◌≢◌, ◌⊎◌, inl, inr}
 use mathlib.Core.Bool.{Bool, true, false, cond, not}
@@ -16,9 +17,7 @@ use Rattle.plane.proofs.Tests.{T_dec, clash, eq-eqb}
 use Rattle.words.specs.Ground.{first_of}
 use Rattle.words.proofs.Refusals.{clear, ground_small, ground_once}
 use Rattle.grids.specs.Frame.{full, unmeasured, load}
-use Rattle.grids.specs.Share.{told, quotient, remainder, measured, share_tests, TenThousandths, Shared}
-use Rattle.grids.specs.declared.Share.{Share}
-use Rattle.grids.specs.declared.Share.TheVariants.{Exact, Refused}
+use Rattle.grids.specs.Share.{ShareAnswer, exact, told, quotient, remainder, measured, share_tests, TenThousandths, Shared}
 
 -- ---- the equations
 
@@ -70,14 +69,14 @@ load_measured f = keep_more (λ v. eqb v full) (λ v. not (eqb v unmeasured)) (�
 
 -- ---- the answer
 
-pub told_once : (a b : Share) → told a ≡ told b → a ≡ b
-told_once (Exact q r) (Exact q' r') e = ap₂ Exact (ap (λ t. t.1) e) (ap (λ t. t.2) e)
-told_once (Exact q r) (Refused g) e = absurd (let n = ap (λ t. t.0) e in let l = (ground_small g).0 in omega arith)
-told_once (Refused g) (Exact q r) e = absurd (let n = ap (λ t. t.0) e in let l = (ground_small g).0 in omega arith)
-told_once (Refused g) (Refused h) e = ap Refused (ground_once g h (ap (λ t. t.0) e))
+pub told_once : (a b : ShareAnswer) → told a ≡ told b → a ≡ b
+told_once (Ok s) (Ok t) e = ap₂ exact (ap (λ t. t.1) e) (ap (λ t. t.2) e)
+told_once (Ok s) (Err g) e = absurd (let n = ap (λ t. t.0) e in let l = (ground_small g).0 in omega arith)
+told_once (Err g) (Ok s) e = absurd (let n = ap (λ t. t.0) e in let l = (ground_small g).0 in omega arith)
+told_once (Err g) (Err h) e = ap Err (ground_once g h (ap (λ t. t.0) e))
 
 -- what is divided is said by three numbers
-share_told : (f : List ℕ) (a : Share) → TenThousandths f a → told a ≡ (0, 10000 * load f / measured f, 10000 * load f % measured f)
+share_told : (f : List ℕ) (a : ShareAnswer) → TenThousandths f a → told a ≡ (0, 10000 * load f / measured f, 10000 * load f % measured f)
 share_told f a p =
     let d = by_division (measured f) (10000 * load f) (quotient a) (remainder a) p.whole p.below in
     tripled p.answer d.0 d.1
@@ -86,11 +85,11 @@ share_told f a p =
     tripled {t} {k} {q} {r} e f g = ap (λ k. (k, t.1, t.2)) e ∙ ap (λ q. (k, q, t.2)) f ∙ ap (λ r. (k, q, r)) g
 
 -- and the quotient is at most 10,000
-pub at_most : (f : List ℕ) (a : Share) → TenThousandths f a → quotient a ≤ 10000
+pub at_most : (f : List ℕ) (a : ShareAnswer) → TenThousandths f a → quotient a ≤ 10000
 at_most f a p = most (measured f) (load f) (quotient a) (remainder a) p.whole p.below (load_measured f)
 
 -- the promise leaves one answer
-pub shared_once : (W H : ℕ) (f : List ℕ) (a b : Share) → Shared W H f a → Shared W H f b → a ≡ b
+pub shared_once : (W H : ℕ) (f : List ℕ) (a b : ShareAnswer) → Shared W H f a → Shared W H f b → a ≡ b
 shared_once W H f a b p q = told_once a b (go (T_dec (eqb n 0)))
   where
     n : ℕ
@@ -114,7 +113,7 @@ some_measured W H f z = go (measured f) (clear (share_tests W H f) tt z).1.1.1.0
     go (suc n) t = omega arith
 
 -- a division gives what is promised
-pub can_share : (W H : ℕ) (f : List ℕ) → first_of (share_tests W H f) ≡ 0 → TenThousandths f (Exact (10000 * load f / measured f) (10000 * load f % measured f))
+pub can_share : (W H : ℕ) (f : List ℕ) → first_of (share_tests W H f) ≡ 0 → TenThousandths f (exact (10000 * load f / measured f) (10000 * load f % measured f))
 can_share W H f z = record {
   answer = refl;
   whole = div-add-mod' (10000 * load f) (measured f);

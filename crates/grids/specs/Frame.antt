@@ -3,7 +3,7 @@ use Rattle.std.specs.Prelude.{◌≡◌, Bool, true, false, not, ◌||◌, List,
 use Rattle.plane.specs.Lists.{any, keep}
 use Rattle.plane.specs.Point.{Point, PointSet}
 use Rattle.words.specs.Ground.{Test, stated, result, Answered}
-use Rattle.words.specs.declared.Answer.{Answer}
+use Rattle.words.specs.Ground.{Answer}
 use Rattle.grids.specs.Image.{view, taken}
 
 -- one byte a cell: 0 free, 1 occupied, 2 not measured (document 02, W5). In order they are 0, 2, 1: free is the least value and full the greatest

@@ -3,7 +3,7 @@ use Rattle.std.specs.Prelude.{◌≡◌, Bool, not, ◌||◌, List, [], ◌∷�
 use Rattle.plane.specs.Point.{Point, ◌+ᵖ◌, ◌-ᵖ◌}
 use Rattle.words.specs.Ground.{Test, stated, result, Answered}
 use Rattle.words.specs.Word.{wrong_kind, extra_bit, stage_kind, stage_mask}
-use Rattle.words.specs.declared.Answer.{Answer}
+use Rattle.words.specs.Ground.{Answer}
 use Rattle.masks.specs.Mask.{mask_points, stage}
 use Rattle.grids.specs.Image.{view, cells}
 use Rattle.grids.specs.declared.Around.{Around}

@@ -4,15 +4,18 @@
 use words::Ground;
 
 // The two kinds of grid, by what is around the frame in it, and outside it.
-#[derive(Clone, Copy)]
+#[derive(Clone, Copy, Debug, PartialEq, Eq)]
 pub enum Around {
     Free,
     Occupied,
 }
 
-// The load in ten-thousandths: a quotient and a remainder, or the ground that refuses the frame.
-#[derive(Drop)]
-pub enum Share {
-    Exact { quotient: u32, remainder: u32 },
-    Refused(Ground),
+// The load in ten-thousandths of the measured cells: a quotient and a remainder.
+#[derive(Clone, Copy, Debug, PartialEq, Eq)]
+pub struct Share {
+    pub quotient: u32,
+    pub remainder: u32,
 }
+
+// A share, or the ground that refuses the frame.
+pub type ShareAnswer = Result<Share, Ground>;

@@ -13,15 +13,14 @@ use Rattle.words.specs.Word.{kind, anchor_kind, row_kind, head_kind, place_kind,
 use Rattle.words.specs.declared.Word.{Word}
 use Rattle.words.specs.declared.Word.TheVariants.{Anchor, Row, Head, Place, Stage, Unused}
 use Rattle.readers.specs.Cursor.{item_at}
-use Rattle.readers.specs.declared.Item.{Item}
-use Rattle.readers.specs.declared.Item.TheVariants.{Found, End}
+use Rattle.std.specs.Prelude.{Option, Some, None}
 use Rattle.readers.proofs.Positions.{item_here, item_end}
 use Rattle.lists.specs.Held.{cells_in, anchor_in, place_in, mask_in}
 
 -- the word that an item is; the end is one of no used kind, as is the word 0, which stands for what is past a list
-abbrev pub word_in : Item → Word
-word_in (Found v) = v
-word_in End = Unused 0
+abbrev pub word_in : Option Word → Word
+word_in (Some v) = v
+word_in None = Unused 0
 
 pub word_in_lem : (ws : List ℕ) (at : ℕ) → word_in (item_at ws at) ≡ word_of (get_or ws at 0)
 word_in_lem ws at = ⊎_elim

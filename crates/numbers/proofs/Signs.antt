@@ -7,15 +7,12 @@ use lib.Signed.{mag}
 use mir.Syntax.{w64}
 use mir.Val.{SFits, to_z, of_z}
 use mir.ValLaws.{to_z-of_z, to_z_pos}
-use Rattle.words.specs.declared.Answer.{Answer}
-use Rattle.words.specs.declared.Answer.TheVariants.{Done, Refused}
+use Rattle.words.specs.Ground.{Answer}
+use Rattle.std.specs.Prelude.{Ok, Err}
 use Rattle.words.specs.declared.Ground.{Ground}
 use Rattle.words.specs.Ground.{number_of, stated}
 use Rattle.words.proofs.Refusals.{stated_once, ground_small}
-use Rattle.grids.specs.declared.Share.{Share}
-use Rattle.grids.specs.declared.Share.TheVariants as shares
-use Rattle.grids.specs.declared.Share.TheVariants.{Exact}
-use Rattle.grids.specs.Share.{told}
+use Rattle.grids.specs.Share.{ShareAnswer, exact, told}
 use Rattle.grids.proofs.Shares.{told_once}
 use Rattle.numbers.specs.Numbers.{signed_of, quotient_of, remainder_of}
 
@@ -42,8 +39,8 @@ stated_of (negsuc n) = (suc n, 0)
 
 said : (r : Answer) → stated_of (signed_of r) ≡ stated r
 unfolding stated_of
-said (Done n) = refl
-said (Refused g) = number_of_lem (number_of g) (ground_small g).0
+said (Ok n) = refl
+said (Err g) = number_of_lem (number_of g) (ground_small g).0
   where
     number_of_lem : (n : ℕ) → 1 ≤ n → stated_of (neg_ℤ (pos n)) ≡ (n, 0)
     number_of_lem zero h = absurd (omega arith)
@@ -57,14 +54,14 @@ told_of : ℤ → ℕ → ℕ × ℕ × ℕ
 told_of (pos q) r = (0, q, r)
 told_of (negsuc n) r = (suc n, 0, 0)
 
-told_of_lem : (a : Share) (before : ℕ) → told_of (quotient_of a) (remainder_of a before) ≡ told a
+told_of_lem : (a : ShareAnswer) (before : ℕ) → told_of (quotient_of a) (remainder_of a before) ≡ told a
 unfolding told_of
-told_of_lem (Exact q r) before = refl
-told_of_lem (shares.Refused g) before = number (number_of g) (ground_small g).0
+told_of_lem (Ok s) before = refl
+told_of_lem (Err g) before = number (number_of g) (ground_small g).0
   where
     number : (n : ℕ) → 1 ≤ n → told_of (neg_ℤ (pos n)) before ≡ (n, 0, 0)
     number zero h = absurd (omega arith)
     number (suc n) h = refl
 
-pub share_once : (a b : Share) (before : ℕ) → quotient_of a ≡ quotient_of b → remainder_of a before ≡ remainder_of b before → a ≡ b
+pub share_once : (a b : ShareAnswer) (before : ℕ) → quotient_of a ≡ quotient_of b → remainder_of a before ≡ remainder_of b before → a ≡ b
 share_once a b before e f = told_once a b (sym (told_of_lem a before) ∙ ap₂ told_of e f ∙ told_of_lem b before)

@@ -1,19 +1,15 @@
 -- What the calls for other languages answer: one signed 64-bit number, the result, or −N for refusal N; where the remainder
 -- of a load goes; what the byte of a single stage says; and which bytes the part is, also where it is asked for with a refusal.
-use Rattle.std.specs.Prelude.{◌≡◌, Bool, cond, not, List, [], ℕ, ◌%◌, eqb, ℤ, pos, negsuc, neg_ℤ, length, take}
-use Rattle.words.specs.declared.Answer.{Answer}
-use Rattle.words.specs.declared.Answer.TheVariants.{Done, Refused}
-use Rattle.words.specs.Ground.{number_of}
+use Rattle.std.specs.Prelude.{◌≡◌, Bool, cond, not, List, [], ℕ, ◌%◌, eqb, ℤ, pos, negsuc, neg_ℤ, length, take, Ok, Err}
+use Rattle.words.specs.Ground.{Answer, number_of}
+use Rattle.grids.specs.Share.{ShareAnswer}
 use Rattle.grids.specs.declared.Around.{Around}
 use Rattle.grids.specs.declared.Around.TheVariants.{Free, Occupied}
-use Rattle.grids.specs.declared.Share.{Share}
-use Rattle.grids.specs.declared.Share.TheVariants as shares
-use Rattle.grids.specs.declared.Share.TheVariants.{Exact}
 use Rattle.cleaning.specs.Cleaning.{part}
 
 abbrev pub signed_of : Answer → ℤ
-signed_of (Done n) = pos n
-signed_of (Refused g) = neg_ℤ (pos (number_of g))
+signed_of (Ok n) = pos n
+signed_of (Err g) = neg_ℤ (pos (number_of g))
 
 -- r is the number of an answer of which P is promised
 pub record Stands (r : ℤ) (P : Answer → Type 0) : Type 0 where
@@ -23,17 +19,17 @@ pub record Stands (r : ℤ) (P : Answer → Type 0) : Type 0 where
 
 -- ---- the load in ten-thousandths: the quotient, or −N for refusal N; the remainder goes to a number that is lent for it, which a refusal leaves as it is
 
-abbrev pub quotient_of : Share → ℤ
-quotient_of (Exact q r) = pos q
-quotient_of (shares.Refused g) = neg_ℤ (pos (number_of g))
+abbrev pub quotient_of : ShareAnswer → ℤ
+quotient_of (Ok s) = pos s.quotient
+quotient_of (Err g) = neg_ℤ (pos (number_of g))
 
-abbrev pub remainder_of : Share → ℕ → ℕ
-remainder_of (Exact q r) before = r
-remainder_of (shares.Refused g) before = before
+abbrev pub remainder_of : ShareAnswer → ℕ → ℕ
+remainder_of (Ok s) before = s.remainder
+remainder_of (Err g) before = before
 
 -- n and the lent number, then after, are those of an answer of which P is promised
-pub record ShareStands (n : ℤ) (before after : ℕ) (P : Share → Type 0) : Type 0 where
-  pub answer : Share
+pub record ShareStands (n : ℤ) (before after : ℕ) (P : ShareAnswer → Type 0) : Type 0 where
+  pub answer : ShareAnswer
   pub number : n ≡ quotient_of answer
   pub rest : after ≡ remainder_of answer before
   pub kept : P answer

@@ -13,7 +13,7 @@ use Rattle.plane.specs.Point.{Point, point, ◌+ᵖ◌, ◌-ᵖ◌, origin, ◌�
 use Rattle.plane.proofs.Algebra.{≐_sym, ≐_trans, moved_cong, +ᵖ_origin, +ᵖ_cancel, subᵖ_cancel}
 use Rattle.words.specs.Ground.{stated, result, refusal}
 use Rattle.words.specs.Word.{head_word, place_word, stage_word}
-use Rattle.words.specs.declared.Answer.{Answer}
+use Rattle.words.specs.Ground.{Answer}
 use Rattle.masks.specs.Chain.{Chain, PlanOf, Picked, sum_of, falling, subset}
 use Rattle.masks.specs.Mask.{stage}
 use Rattle.masks.proofs.Bounds.{forced}

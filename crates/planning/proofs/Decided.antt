@@ -8,8 +8,8 @@ use native.Mathlib.Nat.{le_trans}
 use lib.Dec.{lt→ltb}
 use lib.ListN.{length, take, drop}
 use lib.Seq.{take-append_seam}
-use Rattle.words.specs.declared.Answer.{Answer}
-use Rattle.words.specs.declared.Answer.TheVariants.{Done, Refused}
+use Rattle.words.specs.Ground.{Answer}
+use Rattle.std.specs.Prelude.{Ok, Err}
 use Rattle.words.specs.declared.Ground.TheVariants.{NoChain}
 use Rattle.plane.specs.Lists.{In}
 use Rattle.plane.specs.Point.{Point, PointSet, point, ◌+ᵖ◌, ◌-ᵖ◌}
@@ -101,7 +101,7 @@ module _ (ws out : List ℕ) (e : first_of (planning_tests ws out) ≡ 0) where
   pub can_plan : (d : Point) (ms : List ℕ) → Picked stage (ShapeSet ws) d ms → (r : Answer) × (out' : List ℕ) × Planned ws out r out'
   can_plan d ms P =
       let q = some_point ws (accepted ws out e) in (
-        Done (length ms + 2),
+        Ok (length ms + 2),
         plan_words d ms ++ drop (length ms + 2) out,
         record {
           refused = λ n. absurd (n e);
@@ -111,4 +111,4 @@ module _ (ws out : List ℕ) (e : first_of (planning_tests ws out) ≡ 0) where
       )
 
   pub can_refuse : ¬ Chain subset (ShapeSet ws) → (r : Answer) × (out' : List ℕ) × Planned ws out r out'
-  can_refuse none = (Refused NoChain, out, record { refused = λ n. absurd (n e); done = λ _. inl (record { none = none; answer = refl; kept = refl }) })
+  can_refuse none = (Err NoChain, out, record { refused = λ n. absurd (n e); done = λ _. inl (record { none = none; answer = refl; kept = refl }) })

@@ -5,7 +5,7 @@ use Prim.Native.Nat.{ℕ, ◌+◌}
 use native.Mathlib.Omega.{arith}
 use lib.ListN.{length, length-append, replicate}
 use Rattle.words.specs.Ground.{first_of, stated, result, refusal}
-use Rattle.words.specs.declared.Answer.{Answer}
+use Rattle.words.specs.Ground.{Answer}
 use Rattle.masks.specs.Chain.{Chain, subset}
 use Rattle.shapes.specs.Shape.{shape_tests}
 use Rattle.planning.specs.Planning.{ShapeSet, planning_tests, Unplannable, PlanWritten, Planned}

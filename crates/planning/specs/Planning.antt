@@ -3,7 +3,7 @@ use Rattle.std.specs.Prelude.{◌≡◌, ◌⊎◌, Bool, List, [], ◌∷◌, �
 use Rattle.plane.specs.Lists.{In}
 use Rattle.plane.specs.Point.{Point, PointSet}
 use Rattle.words.specs.Ground.{Test, stated, result, refusal, Answered}
-use Rattle.words.specs.declared.Answer.{Answer}
+use Rattle.words.specs.Ground.{Answer}
 use Rattle.masks.specs.Mask.{stage}
 use Rattle.masks.specs.Chain.{Chain, subset, Picked}
 use Rattle.shapes.specs.Shape.{shape_points, shape_tests}

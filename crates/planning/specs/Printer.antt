@@ -2,7 +2,7 @@
 use Rattle.std.specs.Prelude.{◌≡◌, cond, List, [], ◌∷◌, ◌++◌, ℕ, zero, suc, ◌+◌, ◌/◌, ◌%◌, ◌^◌, T, ltb, length, take}
 use Rattle.plane.specs.Lists.{all, flat}
 use Rattle.words.specs.Ground.{stated}
-use Rattle.words.specs.declared.Answer.{Answer}
+use Rattle.words.specs.Ground.{Answer}
 use Rattle.planning.specs.Planning.{Planned}
 
 -- ---- text

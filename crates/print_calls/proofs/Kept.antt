@@ -11,7 +11,7 @@ use lib.ListN.{length, take}
 use lib.Seq.{take_all, length-take-le}
 use Rattle.plane.proofs.Tests.{T_dec}
 use Rattle.words.specs.Ground.{first_of, refusal}
-use Rattle.words.specs.declared.Answer.{Answer}
+use Rattle.words.specs.Ground.{Answer}
 use Rattle.shapes.specs.Shape.{shape_tests}
 use Rattle.planning.specs.Planning.{planning_tests, Planned}
 use Rattle.planning.specs.Printer.{PrintedFor}

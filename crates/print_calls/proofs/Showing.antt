@@ -7,8 +7,8 @@ use lib.Seq.{take_all}
 use native.Mathlib.Omega.{arith}
 use Rattle.words.specs.Ground.{number_of, stated}
 use Rattle.words.specs.declared.Ground.{Ground}
-use Rattle.words.specs.declared.Answer.{Answer}
-use Rattle.words.specs.declared.Answer.TheVariants.{Done, Refused}
+use Rattle.words.specs.Ground.{Answer}
+use Rattle.std.specs.Prelude.{Ok, Err}
 use Rattle.words.proofs.Refusals.{ground_small}
 use Rattle.planning.specs.Printer.{word_lines, refused_line, shown}
 use Rattle.text.specs.Page.{Holds}
@@ -18,13 +18,13 @@ use Rattle.print_calls.specs.Answers.{PageShows}
 
 module _ (a : Answer) (out : List ℕ) (r : Page) where
   -- a plan of n words, for which a page has room
-  pub shows_part : (n : ℕ) → a ≡ Done n → n ≤ 32 → Holds (word_lines (take 32 (take n out))) r → PageShows a out (take r.n r.bytes)
+  pub shows_part : (n : ℕ) → a ≡ Ok n → n ≤ 32 → Holds (word_lines (take 32 (take n out))) r → PageShows a out (take r.n r.bytes)
   shows_part n e h H =
       let l = length-take n out in
       record { text = page_text _ r H ∙ ap word_lines (take_all 32 (take n out) (omega arith)) ∙ sym (ap (λ b. shown (stated b) out) e) }
 
   -- an output list of 32 words has no more
-  pub shows_whole : (n : ℕ) → a ≡ Done n → length out ≡ 32 → 32 < n → Holds (word_lines (take 32 out)) r → PageShows a out (take r.n r.bytes)
+  pub shows_whole : (n : ℕ) → a ≡ Ok n → length out ≡ 32 → 32 < n → Holds (word_lines (take 32 out)) r → PageShows a out (take r.n r.bytes)
   shows_whole n e l h H =
       record {
         text = page_text _ r H ∙ ap word_lines (take_all 32 out (omega arith) ∙ sym (take_all n out (omega arith)))
@@ -32,14 +32,14 @@ module _ (a : Answer) (out : List ℕ) (r : Page) where
       }
 
 -- no ground has the number 0, and all are below 100
-refused_is : (g : Ground) (out : List ℕ) → refused_line (number_of g % 100) ≡ shown (stated (Refused g)) out
+refused_is : (g : Ground) (out : List ℕ) → refused_line (number_of g % 100) ≡ shown (stated (Err g)) out
 refused_is g out = let s = ground_small g in let e : number_of g % 100 ≡ number_of g = omega arith in ap refused_line e ∙ go (number_of g) s.0
   where
     go : (n : ℕ) → 1 ≤ n → refused_line n ≡ shown (n, 0) out
     go zero h = absurd (omega arith)
     go (suc n) h = refl
 
-pub shows_refused : (a : Answer) (out : List ℕ) (r : Page) (g : Ground) (k : ℕ) → a ≡ Refused g → k ≡ number_of g → Holds (refused_line (k % 100)) r
+pub shows_refused : (a : Answer) (out : List ℕ) (r : Page) (g : Ground) (k : ℕ) → a ≡ Err g → k ≡ number_of g → Holds (refused_line (k % 100)) r
     → PageShows a out (take r.n r.bytes)
 shows_refused a out r g k e f H =
     record { text = page_text _ r H ∙ ap (λ n. refused_line (n % 100)) f ∙ refused_is g out ∙ sym (ap (λ b. shown (stated b) out) e) }

@@ -1,7 +1,7 @@
 -- Document 01, "Printer": what is printed for a reading, and for an answer of planning.
 use Rattle.std.specs.Prelude.{◌≡◌, List, ℕ}
 use Rattle.words.specs.Ground.{stated}
-use Rattle.words.specs.declared.Answer.{Answer}
+use Rattle.words.specs.Ground.{Answer}
 use Rattle.planning.specs.Printer.{shown, Printed}
 use Rattle.text.specs.Reader.{Held}
 use Rattle.text.specs.declared.Reading.{Reading}

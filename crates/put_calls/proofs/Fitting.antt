@@ -8,7 +8,7 @@ use lib.Dec.{T, nltb→le, eqb, eqb→eq}
 use lib.ListN.{length, drop}
 use borrow.Author.Tests.{le-leb}
 use Rattle.plane.proofs.Tests.{T_false, un_not}
-use Rattle.words.specs.declared.Answer.{Answer}
+use Rattle.words.specs.Ground.{Answer}
 use Rattle.words.specs.Ground.{first_of, stated, result}
 use Rattle.words.proofs.Refusals.{clear, promised_done}
 use Rattle.grids.specs.Frame.{bad_size, grid_size, frame_tests}

@@ -4,20 +4,20 @@ use mathlib.Core.List.{List, [], ◌∷◌}
 use Prim.Native.Nat.{ℕ}
 use Rattle.words.specs.declared.Word.TheVariants.{Anchor, Row}
 use Rattle.readers.specs.Cursor.{item_at, left_at, after}
-use Rattle.readers.specs.declared.Item.TheVariants.{Found, End}
+use Rattle.std.specs.Prelude.{Some, None}
 
 four : List ℕ
 four = 268435456 ∷ 536870927 ∷ []
 
-anchor_first : item_at four 0 ≡ Found (Anchor 0 0)
+anchor_first : item_at four 0 ≡ Some (Anchor 0 0)
 unfolding four
 anchor_first = refl
 
-row_next : item_at four (after four 0 1) ≡ Found (Row 0 15)
+row_next : item_at four (after four 0 1) ≡ Some (Row 0 15)
 unfolding four
 row_next = refl
 
-end_then : item_at four (after four 0 2) ≡ End
+end_then : item_at four (after four 0 2) ≡ None
 unfolding four
 end_then = refl
 

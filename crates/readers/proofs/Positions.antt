@@ -13,20 +13,19 @@ use Rattle.plane.proofs.Tests.{lt_or_le}
 use Rattle.words.specs.Read.{word_of, pick}
 use Rattle.words.specs.declared.Word.{Word}
 use Rattle.readers.specs.Cursor.{item_at, left_at, after}
-use Rattle.readers.specs.declared.Item.{Item}
-use Rattle.readers.specs.declared.Item.TheVariants.{Found, End}
+use Rattle.std.specs.Prelude.{Option, Some, None}
 
 -- a word that is read before others; none at the end
-abbrev pub seen : Item → List Word → List Word
-seen (Found v) vs = v ∷ vs
-seen End vs = []
+abbrev pub seen : Option Word → List Word → List Word
+seen (Some v) vs = v ∷ vs
+seen None vs = []
 
 module _ (ws : List ℕ) (at : ℕ) where
-  pub item_here : at < length ws → item_at ws at ≡ Found (word_of (get_or ws at 0))
-  item_here h = ap (λ b. pick b (Found (word_of (get_or ws at 0))) End) (lt-ltb at (length ws) h)
+  pub item_here : at < length ws → item_at ws at ≡ Some (word_of (get_or ws at 0))
+  item_here h = ap (λ b. pick b (Some (word_of (get_or ws at 0))) None) (lt-ltb at (length ws) h)
 
-  pub item_end : length ws ≤ at → item_at ws at ≡ End
-  item_end h = ap (λ b. pick b (Found (word_of (get_or ws at 0))) End) (le-ltb at (length ws) h)
+  pub item_end : length ws ≤ at → item_at ws at ≡ None
+  item_end h = ap (λ b. pick b (Some (word_of (get_or ws at 0))) None) (le-ltb at (length ws) h)
 
   pub after_within : (n : ℕ) → n < left_at ws at → after ws at n ≡ at + n
   after_within n h = ap (λ b. pick b (at + n) (length ws)) (lt-ltb n (left_at ws at) h)

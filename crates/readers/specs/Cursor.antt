@@ -1,13 +1,12 @@
 -- Document 01, "Words": the reader of a list stands on the caller's words. What stands at a position of a list, how much is left there, and where n words
 -- on is.
-use Rattle.std.specs.Prelude.{List, ℕ, ◌+◌, ◌-◌, ltb, length, get_or}
+use Rattle.std.specs.Prelude.{List, ℕ, ◌+◌, ◌-◌, ltb, length, get_or, Option, None, Some}
 use Rattle.words.specs.Read.{word_of, pick}
-use Rattle.readers.specs.declared.Item.{Item}
-use Rattle.readers.specs.declared.Item.TheVariants.{Found, End}
+use Rattle.words.specs.declared.Word.{Word}
 
--- the word at a position, read by its kind; the end where no word stands
-abbrev pub item_at : List ℕ → ℕ → Item
-item_at ws at = pick (ltb at (length ws)) (Found (word_of (get_or ws at 0))) End
+-- the word at a position, read by its kind; none where no word stands, at the end
+abbrev pub item_at : List ℕ → ℕ → Option Word
+item_at ws at = pick (ltb at (length ws)) (Some (word_of (get_or ws at 0))) None
 
 -- how many words are left from a position on; none past the end
 abbrev pub left_at : List ℕ → ℕ → ℕ

@@ -9,7 +9,7 @@ use lib.ListN.{get_or}
 use Rattle.plane.specs.Lists.{In}
 use Rattle.plane.specs.Point.{◌+ᵖ◌, negᵖ}
 use Rattle.words.specs.Ground.{first_of, stated, result, refusal}
-use Rattle.words.specs.declared.Answer.{Answer}
+use Rattle.words.specs.Ground.{Answer}
 use Rattle.masks.specs.Mask.{mask_cells}
 use Rattle.shapes.specs.Plan.{plan_points, plan_tests}
 use Rattle.grids.specs.Frame.{free, frame}

@@ -13,8 +13,8 @@ use Rattle.plane.specs.Lists.{In}
 use Rattle.plane.specs.Point.{Point}
 use Rattle.plane.proofs.Tests.{T_dec, T_true, T_false, clash, eq-eqb}
 use Rattle.words.specs.Ground.{first_of, stated, result}
-use Rattle.words.specs.declared.Answer.{Answer}
-use Rattle.words.specs.declared.Answer.TheVariants.{Done}
+use Rattle.words.specs.Ground.{Answer}
+use Rattle.std.specs.Prelude.{Ok}
 use Rattle.words.proofs.Kept.{can_keep}
 use Rattle.words.proofs.Refusals.{stated_once}
 use Rattle.shapes.specs.Plan.{plan_points, plan_tests}
@@ -76,7 +76,7 @@ possible plan W H row live kept =
     let q = can_keep {S = List ℕ × List ℕ} (arrival_tests plan W H row live kept) tt (live, kept) (λ s. (s.0 ≡ live) × (s.1 ≡ kept))
     (λ r s. (stated r ≡ result 0) × Rolled P W H row live kept s.0 s.1) (refl, refl)
     (λ e. (
-      Done 0,
+      Ok 0,
       (rolled W live row, brought_up W H P (rolled W live row) kept),
       (refl, brought P W H row live kept (call_accepted plan W H row live kept e)),
     )) in

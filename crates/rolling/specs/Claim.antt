@@ -4,7 +4,7 @@ use Rattle.std.specs.Prelude.{◌≡◌, Bool, List, [], ◌∷◌, ◌++◌, �
 use Rattle.plane.specs.Lists.{In, keep, flat}
 use Rattle.plane.specs.Point.{PointSet}
 use Rattle.words.specs.Ground.{first_of, stated}
-use Rattle.words.specs.declared.Answer.{Answer}
+use Rattle.words.specs.Ground.{Answer}
 use Rattle.shapes.specs.Plan.{plan_points, plan_tests}
 use Rattle.planning.specs.Planning.{ShapeSet, planning_tests, PlanWritten}
 use Rattle.grids.specs.Frame.{free, bad_size, bad_cell}

@@ -3,7 +3,7 @@ use Rattle.std.specs.Prelude.{◌≡◌, Bool, false, not, ◌&&◌, ◌||◌, L
 use Rattle.plane.specs.Lists.{In}
 use Rattle.plane.specs.Point.{Point, PointSet}
 use Rattle.words.specs.Ground.{Test, stated, result, Answered}
-use Rattle.words.specs.declared.Answer.{Answer}
+use Rattle.words.specs.Ground.{Answer}
 use Rattle.shapes.specs.Plan.{plan_points, plan_tests}
 use Rattle.grids.specs.Frame.{bad_size, wrong_length, bad_cell}
 use Rattle.grids.specs.Rules.{Gives}

@@ -12,7 +12,7 @@ use Rattle.plane.specs.Point.{Point, ◌≐◌}
 use Rattle.plane.proofs.Algebra.{≐_trans, ≐_sym, ⊕_cong}
 use Rattle.plane.proofs.Member.{In-append}
 use Rattle.plane.proofs.Tests.{T_dec, T_true, T_false}
-use Rattle.words.specs.declared.Answer.{Answer}
+use Rattle.words.specs.Ground.{Answer}
 use Rattle.words.specs.Ground.{first_of, stated, refusal, result, both}
 use Rattle.words.proofs.Refusals.{Clear, clear, both_clear, unclear}
 use Rattle.masks.specs.Chain.{sums}

@@ -12,7 +12,7 @@ use Rattle.plane.specs.Lists.{In}
 use Rattle.plane.specs.Point.{Point, Cell, point, negᵖ, ◌-ᵖ◌, ◌≐◌}
 use Rattle.plane.proofs.Member.{In-map}
 use Rattle.plane.proofs.Tests.{lt_or_le}
-use Rattle.words.specs.declared.Answer.TheVariants.{Done, Refused}
+use Rattle.std.specs.Prelude.{Ok, Err}
 use Rattle.words.specs.declared.Ground.TheVariants.{OutOfRange, OutputLength}
 use Rattle.words.specs.Ground.{first_of, result}
 use Rattle.rows.specs.Cells.{At}
@@ -71,7 +71,7 @@ module _ (s : Shape) (out : List ℕ) where
   tests_are : (f b : Bool) → s.fits ≡ f → ltb (length out) 17 ≡ b → first_of (writing_tests s out) ≡ first_of ((8, not f) ∷ (9, b) ∷ [])
   tests_are f b p q = ap₂ (λ f b. first_of ((8, not f) ∷ (9, b) ∷ [])) p q
 
-  pub write_far : s.fits ≡ false → ListAnswered (writing_tests s out) (points_of s) out (Refused OutOfRange) out
+  pub write_far : s.fits ≡ false → ListAnswered (writing_tests s out) (points_of s) out (Err OutOfRange) out
   write_far e =
       let t = tests_are false (ltb (length out) 17) e refl in
       record { refused = λ _. (ap (λ n. (n, 0)) (sym t), refl); done = λ z. absurd (omega (arith, sym t ∙ z)) }
@@ -80,7 +80,7 @@ module _ (s : Shape) (out : List ℕ) where
     w : WordsWritten (listed (points_of s)) out n out'
     w = subst (λ ws. WordsWritten ws out n out') e written
 
-    pub write_short : n ≡ 0 → ListAnswered (writing_tests s out) (points_of s) out (Refused OutputLength) out'
+    pub write_short : n ≡ 0 → ListAnswered (writing_tests s out) (points_of s) out (Err OutputLength) out'
     unfolding listed
     write_short z = ⊎_elim
         (λ l. let t = tests_are true true f (lt-ltb (length out) 17 l) in
@@ -88,7 +88,7 @@ module _ (s : Shape) (out : List ℕ) where
         (λ l. absurd (let k = (w.words l).0 in omega arith))
         (lt_or_le (length out) 17)
 
-    pub write_done : n ≢ 0 → ListAnswered (writing_tests s out) (points_of s) out (Done n) out'
+    pub write_done : n ≢ 0 → ListAnswered (writing_tests s out) (points_of s) out (Ok n) out'
     write_done z = ⊎_elim
         (λ l. absurd (z (w.short l).0))
         (λ l. let t = tests_are true false f (le-ltb (length out) 17 l) in

@@ -8,7 +8,7 @@ use lib.ListN.{replicate}
 use Rattle.plane.specs.Lists.{up_to}
 use Rattle.plane.specs.Point.{◌+ᵖ◌, negᵖ}
 use Rattle.words.specs.Ground.{first_of, stated, result, refusal}
-use Rattle.words.specs.declared.Answer.{Answer}
+use Rattle.words.specs.Ground.{Answer}
 use Rattle.shapes.specs.Calls.{moved_points, moving_tests, joining_tests, turning_tests, summed_points, joined_points, summing_tests, Moved, Joined}
 use Rattle.shapes.specs.Calls.{Summed, TurnedBack}
 use Rattle.shapes.specs.Listed.{listed}

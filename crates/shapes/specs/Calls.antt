@@ -3,7 +3,7 @@
 use Rattle.std.specs.Prelude.{◌≡◌, Bool, List, [], ◌∷◌, ◌++◌, map, ℕ, ltb, length, drop}
 use Rattle.plane.specs.Point.{Point, ◌+ᵖ◌}
 use Rattle.words.specs.Ground.{Test, both, stated, result, Answered}
-use Rattle.words.specs.declared.Answer.{Answer}
+use Rattle.words.specs.Ground.{Answer}
 use Rattle.masks.specs.Chain.{sums}
 use Rattle.shapes.specs.Shape.{shape_points, shape_tests, out_of_range}
 use Rattle.shapes.specs.Plan.{plan_points, plan_tests}

@@ -6,13 +6,12 @@ use mathlib.Core.List.{List, [], ◌∷◌}
 use Prim.Native.Nat.{ℕ, ◌<◌}
 use native.Mathlib.Omega.{arith}
 use lib.Dec.{T, leb, eqb, eqb→eq, leb→le}
-use Rattle.words.specs.declared.Answer.{Answer}
-use Rattle.words.specs.declared.Answer.TheVariants.{Refused}
+use Rattle.std.specs.Prelude.{Err}
 use Rattle.words.specs.declared.Ground.{Ground}
 use Rattle.plane.specs.Lists.{all, up_to}
 use Rattle.plane.proofs.Member.{each_below}
 use Rattle.plane.proofs.Tests.{T_and, T_or, T_dec, clash, cond_ind, eq-eqb}
-use Rattle.words.specs.Ground.{Test, first_of, number_of, stated, refusal, Promised, Answered}
+use Rattle.words.specs.Ground.{Answer, Test, first_of, number_of, stated, refusal, Promised, Answered}
 use Rattle.words.proofs.Refusals.{ground_of, is_ground, promised_done, promised_refusal}
 
 -- every test has the number of a ground
@@ -71,4 +70,4 @@ can_promise {A} {S} Refuses refuse says ts t same U W u w = go (T_dec (eqb (firs
 
 pub can_keep : {S : Type 0} (ts : List Test) → T (known ts) → (same : S) (U : S → Type 0) (W : Answer → S → Type 0) → U same
     → (first_of ts ≡ 0 → (r : Answer) × (s : S) × W r s) → (r : Answer) × (s : S) × Answered ts r (U s) (W r s)
-can_keep ts t same U W u w = can_promise (λ r k. stated r ≡ refusal k) Refused (λ _. refl) ts t same U W u w
+can_keep ts t same U W u w = can_promise (λ r k. stated r ≡ refusal k) Err (λ _. refl) ts t same U W u w

@@ -9,12 +9,11 @@ use lib.Dec.{T, ltb, leb, eqb, ltb→lt, leb→le, eqb→eq}
 use lib.ListN.{get_or, drop}
 use Rattle.plane.specs.Lists.{all}
 use Rattle.plane.proofs.Tests.{T_and, T_dec, T_false, not_or, eq-eqb}
-use Rattle.words.specs.Ground.{Test, first_of, number_of, stated, result, refusal, both, Tried, Promised}
+use Rattle.words.specs.Ground.{Answer, Test, first_of, number_of, stated, result, refusal, both, Promised}
 use Rattle.words.specs.declared.Ground.{Ground}
 use Rattle.words.specs.declared.Ground.TheVariants.{ListLength, WordKind, ExtraBit, RowOrder, StageCount, PlaceField, StageMask, OutOfRange}
 use Rattle.words.specs.declared.Ground.TheVariants.{OutputLength, NoChain, FrameSize, FrameLength, CellValue, ImageLength, RowLength, NoneMeasured}
-use Rattle.words.specs.declared.Answer.{Answer}
-use Rattle.words.specs.declared.Answer.TheVariants.{Done, Refused}
+use Rattle.std.specs.Prelude.{Ok, Err}
 
 -- ---- tests in turn
 
@@ -198,12 +197,12 @@ ground_some g = go (number_of g) (ground_small g).0 (T_dec (eqb (number_of g) 0)
     go n h (inr t) = T_false (eqb n 0) t
 
 answer_of : ℕ × ℕ → Answer
-answer_of s = cond (eqb s.0 0) (Done s.1) (Refused (ground_of s.0))
+answer_of s = cond (eqb s.0 0) (Ok s.1) (Err (ground_of s.0))
 
 answer_back : (r : Answer) → answer_of (stated r) ≡ r
 unfolding answer_of
-answer_back (Done n) = refl
-answer_back (Refused g) = ap (λ b. cond b (Done 0) (Refused (ground_of (number_of g)))) (ground_some g) ∙ ap Refused (ground_back g)
+answer_back (Ok n) = refl
+answer_back (Err g) = ap (λ b. cond b (Ok 0) (Err (ground_of (number_of g)))) (ground_some g) ∙ ap Err (ground_back g)
 
 -- two answers that say the same are the same: no two grounds share a number, and none has the number 0
 pub stated_once : (r s : Answer) → stated r ≡ stated s → r ≡ s
@@ -214,64 +213,8 @@ pub result_no_refusal : (r : Answer) (n k : ℕ) → stated r ≡ result n → s
 result_no_refusal r n k p q = ap (λ s. s.0) (sym q ∙ p)
 
 -- an answer that says which test holds: a refusal says that one does, any other that none does
-pub refused_some : (g : Ground) (k : ℕ) → stated (Refused g) ≡ refusal k → k ≢ 0
+pub refused_some : (g : Ground) (k : ℕ) → stated (Err g) ≡ refusal k → k ≢ 0
 refused_some g k e z = absurd (subst T (ground_some g) (eq-eqb (ap (λ s. s.0) e ∙ z)))
 
-pub done_none : (n k : ℕ) → stated (Done n) ≡ refusal k → k ≡ 0
+pub done_none : (n k : ℕ) → stated (Ok n) ≡ refusal k → k ≡ 0
 done_none n k e = sym (ap (λ s. s.0) e)
-
--- ---- one ground more
-
-apart : (n : ℕ) (f : Ground) → Done n ≡ Refused f → ⊥
-apart n f e = refused_some f (number_of f) refl (sym (ap (λ r. (stated r).0) e))
-
-module _ (a : Answer) (holds : Bool) (g : Ground) where
-  -- a ground before it refuses
-  pub tried_refused : (f : Ground) → a ≡ Refused f → Tried a holds g (Refused f)
-  tried_refused f q = record {
-    stays = λ h e. sym q ∙ e;
-    refuses = λ n e t. absurd (apart n f (sym e ∙ q));
-    passes = λ n e t. absurd (apart n f (sym e ∙ q));
-  }
-
-  -- none does, so it decides
-  pub tried_holds : (m : ℕ) → a ≡ Done m → holds ≡ true → Tried a holds g (Refused g)
-  tried_holds m q h = record {
-    stays = λ f e. absurd (apart m f (sym q ∙ e));
-    refuses = λ n e t. refl;
-    passes = λ n e t. absurd (subst T (sym h ∙ t) tt);
-  }
-
-  pub tried_fails : (m : ℕ) → a ≡ Done m → holds ≡ false → Tried a holds g (Done m)
-  tried_fails m q h = record {
-    stays = λ f e. absurd (apart m f (sym q ∙ e));
-    refuses = λ n e t. absurd (subst T (sym t ∙ h) tt);
-    passes = λ n e t. sym q ∙ e;
-  }
-
--- the answer for some tests becomes the answer for one more behind them. What was tried has to be the test's value b only where no test before it holds,
--- so that what is tested may lean on them
-pub tried_more : {a : Answer} {holds : Bool} {g : Ground} {r : Answer} → Tried a holds g r → (ts : List Test) (b : Bool) → T (numbered ts)
-    → stated a ≡ refusal (first_of ts)
-    → (first_of ts ≡ 0 → holds ≡ b) → stated r ≡ refusal (first_of (ts ++ (number_of g, b) ∷ []))
-tried_more {a} {holds} {g} {r} t ts b n e f = go a refl
-  where
-    -- where no test before it holds, it decides
-    decides : first_of ts ≡ 0 → first_of (ts ++ (number_of g, b) ∷ []) ≡ cond holds (number_of g) 0
-    decides z = rest_append ts ((number_of g, b) ∷ []) (clear ts n z) ∙ ap (λ h. cond h (number_of g) 0) (sym (f z))
-
-    go : (a' : Answer) → a ≡ a' → stated r ≡ refusal (first_of (ts ++ (number_of g, b) ∷ []))
-    go (Refused h) q =
-        let said = ap stated (sym q) ∙ e in
-        ap stated (t.stays h q) ∙ said ∙ ap refusal (sym (first_append ts ((number_of g, b) ∷ []) (refused_some h (first_of ts) said)))
-    go (Done m) q = by holds refl
-      where
-        said : stated (Done m) ≡ refusal (first_of ts)
-        said = ap stated (sym q) ∙ e
-
-        none : first_of ts ≡ 0
-        none = done_none m (first_of ts) said
-
-        by : (h : Bool) → holds ≡ h → stated r ≡ refusal (first_of (ts ++ (number_of g, b) ∷ []))
-        by true h = ap stated (t.refuses m q h) ∙ ap refusal (sym (decides none ∙ ap (λ h. cond h (number_of g) 0) h))
-        by false h = ap stated (t.passes m q h) ∙ said ∙ ap refusal (none ∙ sym (decides none ∙ ap (λ h. cond h (number_of g) 0) h))

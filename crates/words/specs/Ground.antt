@@ -1,12 +1,10 @@
 -- Document 01, "The fourteen grounds, in checking order", and what document 02 adds to them: the number of each ground, what an answer says, and the first test
 -- that holds.
 -- Each call has a list of numbered tests in checking order; a ground added later is one line more in the lists of the calls that meet it.
-use Rattle.std.specs.Prelude.{◌≡◌, ◌≢◌, Bool, true, false, cond, ◌||◌, List, [], ◌∷◌, ℕ}
+use Rattle.std.specs.Prelude.{◌≡◌, ◌≢◌, Bool, true, false, cond, ◌||◌, List, [], ◌∷◌, ℕ, Result, Ok, Err}
 use Rattle.words.specs.declared.Ground.{Ground}
 use Rattle.words.specs.declared.Ground.TheVariants.{ListLength, WordKind, ExtraBit, RowOrder, StageCount, PlaceField, StageMask, OutOfRange}
 use Rattle.words.specs.declared.Ground.TheVariants.{OutputLength, NoChain, FrameSize, FrameLength, CellValue, ImageLength, RowLength, NoneMeasured}
-use Rattle.words.specs.declared.Answer.{Answer}
-use Rattle.words.specs.declared.Answer.TheVariants.{Done, Refused}
 
 -- the number of each ground: document 01's, and from 15 on document 02's
 abbrev pub number_of : Ground → ℕ
@@ -27,10 +25,14 @@ number_of ImageLength = 14
 number_of RowLength = 15
 number_of NoneMeasured = 16
 
+-- a call's answer: its result, or the ground that refuses it
+abbrev pub Answer : Type 0
+Answer = Result ℕ Ground
+
 -- what an answer says: the number of its ground, 0 where it is no refusal; and its result, 0 where it is a refusal
 abbrev pub stated : Answer → ℕ × ℕ
-stated (Done n) = (0, n)
-stated (Refused g) = (number_of g, 0)
+stated (Ok n) = (0, n)
+stated (Err g) = (number_of g, 0)
 
 -- what is said by a result, and by a refusal, which hands back its number alone
 abbrev pub result : ℕ → ℕ × ℕ
@@ -48,11 +50,15 @@ abbrev pub first_of : List Test → ℕ
 first_of [] = 0
 first_of (t ∷ ts) = let r = first_of ts in cond t.1 t.0 r
 
--- one ground more, tried behind those that the answer a is for: a refusal stays, and else the ground g refuses where its test holds
-pub record Tried (a : Answer) (holds : Bool) (g : Ground) (r : Answer) : Type 0 where
-  pub stays : (f : Ground) → a ≡ Refused f → r ≡ Refused f
-  pub refuses : (n : ℕ) → a ≡ Done n → holds ≡ true → r ≡ Refused g
-  pub passes : (n : ℕ) → a ≡ Done n → holds ≡ false → r ≡ Done n
+-- the number of the ground that refuses, 0 where none does, whatever is answered then
+abbrev pub refused_by : {A : Type 0} → Result A Ground → ℕ
+refused_by (Ok _) = 0
+refused_by (Err g) = number_of g
+
+-- one ground, tried by itself: it refuses where its test holds
+abbrev pub Tried : Bool → Ground → Result (Unit {0}) Ground → Type 0
+Tried holds g (Ok _) = holds ≡ false
+Tried holds g (Err f) = (holds ≡ true) × (f ≡ g)
 
 -- the tests of two lists that meet the same grounds: each ground is tried over both before the next
 abbrev pub both : List Test → List Test → List Test

@@ -6,7 +6,7 @@ ghost use Rattle.words.specs.Ground.{number_of, Tried};
 ghost use Rattle.words.specs.Read.{word_of};
 
 // A word, read by its kind.
-#[derive(Drop)]
+#[derive(Clone, Copy, Debug, PartialEq, Eq)]
 pub enum Word {
     Anchor { ax: u32, ay: u32 },
     Row { y: u32, columns: u32 },
@@ -22,7 +22,6 @@ pub fn read(w: u32) -> Word
 {
     let kind = w / 0x1000_0000;
     match kind {
-        0 => Word::Unused(0),
         1 => Word::Anchor {
             ax: w % 16,
             ay: w / 16 % 16,
@@ -37,13 +36,12 @@ pub fn read(w: u32) -> Word
             y: w / 256 % 256,
         },
         5 => Word::Stage(w % 512),
-        6..=15 => Word::Unused(kind),
         _ => Word::Unused(kind),
     }
 }
 
 // The grounds, by their numbers: those of document 01, then those that document 02 adds; `number_of` in specs/Ground.antt gives each its number.
-#[derive(Drop)]
+#[derive(Clone, Copy, Debug, PartialEq, Eq)]
 pub enum Ground {
     ListLength,
     WordKind,
@@ -63,48 +61,38 @@ pub enum Ground {
     NoneMeasured,
 }
 
-// A result, or a refusal. What the number of a result means is said by each call.
-#[derive(Drop)]
-pub enum Answer {
-    Done(u32),
-    Refused(Ground),
-}
+// A result, or the ground that refuses. What the number of a result means is said by each call.
+pub type Answer = Result<u32, Ground>;
 
-// The number of a ground, as the document counts them.
-pub fn number(g: Ground) -> u32
-    ensures { result ≡ number_of g }
-{
-    match g {
-        Ground::ListLength => 1,
-        Ground::WordKind => 2,
-        Ground::ExtraBit => 3,
-        Ground::RowOrder => 4,
-        Ground::StageCount => 5,
-        Ground::PlaceField => 6,
-        Ground::StageMask => 7,
-        Ground::OutOfRange => 8,
-        Ground::OutputLength => 9,
-        Ground::NoChain => 10,
-        Ground::FrameSize => 11,
-        Ground::FrameLength => 12,
-        Ground::CellValue => 13,
-        Ground::ImageLength => 14,
-        Ground::RowLength => 15,
-        Ground::NoneMeasured => 16,
-    }
-}
+impl From<Ground> for u32 {
+    ghost from_gives = { λ g n. n ≡ number_of g };
 
-// One test more: the answer so far where that is a refusal, else a refusal by the ground where its test holds. A chain of grounds begins with Done(0).
-pub fn tried(so_far: Answer, holds: bool, ground: Ground) -> Answer
-    ensures { Tried so_far holds ground result }
-{
-    match so_far {
-        Answer::Refused(first) => Answer::Refused(first),
-        Answer::Done(n) => {
-            if holds {
-                return Answer::Refused(ground);
-            }
-            Answer::Done(n)
+    // The number of a ground, as the document counts them.
+    fn from(g: Ground) -> u32 {
+        match g {
+            Ground::ListLength => 1,
+            Ground::WordKind => 2,
+            Ground::ExtraBit => 3,
+            Ground::RowOrder => 4,
+            Ground::StageCount => 5,
+            Ground::PlaceField => 6,
+            Ground::StageMask => 7,
+            Ground::OutOfRange => 8,
+            Ground::OutputLength => 9,
+            Ground::NoChain => 10,
+            Ground::FrameSize => 11,
+            Ground::FrameLength => 12,
+            Ground::CellValue => 13,
+            Ground::ImageLength => 14,
+            Ground::RowLength => 15,
+            Ground::NoneMeasured => 16,
         }
     }
+}
+
+// Refuses by the ground where its test holds. A call tries its grounds in their order, each with a `?`, so that the first that holds is answered.
+pub fn tried(holds: bool, ground: Ground) -> Result<(), Ground>
+    ensures { Tried holds ground result }
+{
+    if holds { Err(ground) } else { Ok(()) }
 }

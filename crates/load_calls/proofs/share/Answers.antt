@@ -11,8 +11,7 @@ use Rattle.words.specs.Ground.{Test, first_of, refusal}
 use Rattle.words.proofs.Refusals.{clear, done_none, rest_append, promised_done, promised_rest}
 use Rattle.words.proofs.Tested.{refused_first}
 use Rattle.grids.specs.Frame.{frame_tests, load}
-use Rattle.grids.specs.Share.{measured, none_measured, share_tests, TenThousandths}
-use Rattle.grids.specs.declared.Share.TheVariants.{Exact}
+use Rattle.grids.specs.Share.{exact, measured, none_measured, share_tests, TenThousandths}
 use Rattle.grids.proofs.Shares.{load_most, can_share}
 use Rattle.cell_steps.proofs.Loops.{times_load}
 use Rattle.frame_grounds.specs.Looking.{greatest_cell, frame_tests_by}
@@ -86,6 +85,6 @@ returns c =
     let n = c.times-n.ensures.few (omega arith) ∙ times_load f in
     let o : none_measured f ≡ false = ne_eqb (measured f) 0 (λ z. c.if-all-eq0.false (c.measured-all.ensures ∙ z)) in
     let z : first_of (share_tests a.w a.h f) ≡ 0 = rest_append ts us (clear ts tt y) ∙ ap (λ b. cond b 16 0) o in
-    let e : c.ten_thousandths.result ≡ Exact (10000 * load f / measured f) (10000 * load f % measured f) =
-    c.ten_thousandths.ensures ∙ ap₂ (λ k n. Exact (10000 * k / n) (10000 * k % n)) n c.measured-all.ensures in
+    let e : c.ten_thousandths.result ≡ exact (10000 * load f / measured f) (10000 * load f % measured f) =
+    c.ten_thousandths.ensures ∙ ap₂ (λ k n. exact (10000 * k / n) (10000 * k % n)) n c.measured-all.ensures in
     promised_done (share_tests a.w a.h f) z (subst (TenThousandths f) (sym e) (can_share a.w a.h f z))

@@ -5,8 +5,8 @@ use mathlib.Core.List.{List}
 use Prim.Native.Nat.{ℕ, ◌≤◌}
 use lib.ListN.{length, take, drop}
 use Rattle.plane.proofs.Tests.{T_false}
-use Rattle.words.specs.declared.Answer.{Answer}
-use Rattle.words.specs.declared.Answer.TheVariants.{Done}
+use Rattle.words.specs.Ground.{Answer}
+use Rattle.std.specs.Prelude.{Ok}
 use Rattle.words.specs.declared.Ground.TheVariants.{WordKind, ExtraBit, StageCount, PlaceField, StageMask}
 use Rattle.words.specs.Ground.{first_of, stated, refusal, Tried}
 use Rattle.words.proofs.Refusals.{done_none, first_holds, first_fails, clear, tried_more}
@@ -21,7 +21,7 @@ long b ws e f = within 2 32 ws (sym e ∙ f)
 
 -- all grounds but 8
 first_six : {a b c d e : Bool} {kinds bits count place masks : Answer} (ws : List ℕ) → wrong_plan_length ws ≡ false
-    → Tried (Done 0) a WordKind kinds → a ≡ wrong_plan_kinds ws
+    → Tried (Ok 0) a WordKind kinds → a ≡ wrong_plan_kinds ws
     → Tried kinds b ExtraBit bits → b ≡ wrong_plan_bits ws
     → Tried bits c StageCount count → c ≡ wrong_count ws
     → Tried count d PlaceField place → d ≡ wrong_place ws

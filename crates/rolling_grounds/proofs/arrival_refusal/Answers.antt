@@ -5,7 +5,7 @@ use Prim.Native.Nat.{ℕ}
 use mathlib.Core.List.{List}
 use lib.ListN.{take, drop}
 use Rattle.plane.proofs.Tests.{T_false}
-use Rattle.words.specs.declared.Answer.{Answer}
+use Rattle.words.specs.Ground.{Answer}
 use Rattle.words.specs.declared.Ground.TheVariants.{FrameSize, FrameLength, RowLength}
 use Rattle.words.specs.Ground.{first_of, stated, refusal, Tried}
 use Rattle.words.proofs.Refusals.{clear, tried_more}
