@@ -9,11 +9,11 @@ use lib.Dec.{T, ltb, leb, eqb, ltb→lt, leb→le, eqb→eq}
 use lib.ListN.{get_or, drop}
 use Rattle.plane.specs.Lists.{all}
 use Rattle.plane.proofs.Tests.{T_and, T_dec, T_false, not_or, eq-eqb}
-use Rattle.words.specs.Ground.{Answer, Test, first_of, number_of, stated, result, refusal, both, Promised}
+use Rattle.words.specs.Ground.{Answer, Test, first_of, number_of, stated, result, refusal, refused_by, both, Tried, TriedAfter, Promised}
 use Rattle.words.specs.declared.Ground.{Ground}
 use Rattle.words.specs.declared.Ground.TheVariants.{ListLength, WordKind, ExtraBit, RowOrder, StageCount, PlaceField, StageMask, OutOfRange}
 use Rattle.words.specs.declared.Ground.TheVariants.{OutputLength, NoChain, FrameSize, FrameLength, CellValue, ImageLength, RowLength, NoneMeasured}
-use Rattle.std.specs.Prelude.{Ok, Err}
+use Rattle.std.specs.Prelude.{Result, Ok, Err}
 
 -- ---- tests in turn
 
@@ -218,3 +218,60 @@ refused_some g k e z = absurd (subst T (ground_some g) (eq-eqb (ap (λ s. s.0) e
 
 pub done_none : (n k : ℕ) → stated (Ok n) ≡ refusal k → k ≡ 0
 done_none n k e = sym (ap (λ s. s.0) e)
+
+-- ---- one ground more
+
+-- the answer for some tests becomes the answer for one more behind them. What was tried has to be the test's value b only where no test before it holds,
+-- so that what is tested may lean on them
+pub tried_more : {A : Type 0} {a : Result A Ground} {holds : Bool} {g : Ground} {r : Result A Ground} → TriedAfter a holds g r → (ts : List Test) (b : Bool)
+    → T (numbered ts) → refused_by a ≡ first_of ts
+    → (first_of ts ≡ 0 → holds ≡ b) → refused_by r ≡ first_of (ts ++ (number_of g, b) ∷ [])
+tried_more {A} {a} {holds} {g} {r} t ts b n e f = go a refl
+  where
+    -- where no test before it holds, it decides
+    decides : first_of ts ≡ 0 → first_of (ts ++ (number_of g, b) ∷ []) ≡ cond holds (number_of g) 0
+    decides z = rest_append ts ((number_of g, b) ∷ []) (clear ts n z) ∙ ap (λ h. cond h (number_of g) 0) (sym (f z))
+
+    go : (a' : Result A Ground) → a ≡ a' → refused_by r ≡ first_of (ts ++ (number_of g, b) ∷ [])
+    go (Err h) q =
+        let said : number_of h ≡ first_of ts = ap refused_by (sym q) ∙ e in
+        let some : first_of ts ≢ 0 = λ z. let s = (ground_small h).0 in absurd (omega arith) in
+        ap refused_by (t.stays h q) ∙ said ∙ sym (first_append ts ((number_of g, b) ∷ []) some)
+    go (Ok x) q = by holds refl
+      where
+        none : first_of ts ≡ 0
+        none = sym (ap refused_by (sym q) ∙ e)
+
+        by : (h : Bool) → holds ≡ h → refused_by r ≡ first_of (ts ++ (number_of g, b) ∷ [])
+        by true h = ap refused_by (t.refuses x q h) ∙ sym (decides none ∙ ap (λ h. cond h (number_of g) 0) h)
+        by false h = ap refused_by (t.passes x q h) ∙ sym (decides none ∙ ap (λ h. cond h (number_of g) 0) h)
+
+-- what a ground that is tried by itself answers, where those before it passed
+pub tried_after : (holds : Bool) (g : Ground) (r : Result (Unit {0}) Ground) → Tried holds g r → TriedAfter (Ok tt) holds g r
+tried_after holds g (Ok u) t = record {
+  stays = λ f e. absurd (apart f e);
+  refuses = λ x e h. absurd (subst T (sym h ∙ t) tt);
+  passes = λ x e h. refl;
+}
+  where
+    passed : Result (Unit {0}) Ground
+    passed = Ok tt
+
+    apart : (f : Ground) → passed ≡ Err f → ⊥
+    apart f e = let z : 0 ≡ number_of f = ap refused_by e in let s = (ground_small f).0 in omega arith
+tried_after holds g (Err f) t = record {
+  stays = λ h e. absurd (apart h e);
+  refuses = λ x e h. ap Err t.1;
+  passes = λ x e h. absurd (subst T (sym t.0 ∙ h) tt);
+}
+  where
+    passed : Result (Unit {0}) Ground
+    passed = Ok tt
+
+    apart : (f : Ground) → passed ≡ Err f → ⊥
+    apart f e = let z : 0 ≡ number_of f = ap refused_by e in let s = (ground_small f).0 in omega arith
+
+-- so where none of the tests before it holds, it is the answer for them and it
+pub tried_next : (holds : Bool) (g : Ground) (r : Result (Unit {0}) Ground) → Tried holds g r → (ts : List Test) (b : Bool) → T (numbered ts)
+    → first_of ts ≡ 0 → holds ≡ b → refused_by r ≡ first_of (ts ++ (number_of g, b) ∷ [])
+tried_next holds g r t ts b n z h = tried_more (tried_after holds g r t) ts b n (sym z) (λ _. h)

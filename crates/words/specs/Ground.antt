@@ -60,6 +60,12 @@ abbrev pub Tried : Bool → Ground → Result (Unit {0}) Ground → Type 0
 Tried holds g (Ok _) = holds ≡ false
 Tried holds g (Err f) = (holds ≡ true) × (f ≡ g)
 
+-- one ground more, tried behind those that the answer a is for: a refusal stays, and else the ground g refuses where its test holds
+pub record TriedAfter {A : Type 0} (a : Result A Ground) (holds : Bool) (g : Ground) (r : Result A Ground) : Type 0 where
+  pub stays : (f : Ground) → a ≡ Err f → r ≡ Err f
+  pub refuses : (x : A) → a ≡ Ok x → holds ≡ true → r ≡ Err g
+  pub passes : (x : A) → a ≡ Ok x → holds ≡ false → r ≡ Ok x
+
 -- the tests of two lists that meet the same grounds: each ground is tried over both before the next
 abbrev pub both : List Test → List Test → List Test
 both [] us = us
