@@ -12,7 +12,7 @@ use Rattle.std.specs.Prelude.{Ok, Err}
 use Rattle.words.specs.declared.Ground.{Ground}
 use Rattle.words.specs.Ground.{number_of, stated}
 use Rattle.words.proofs.Refusals.{stated_once, ground_small}
-use Rattle.grids.specs.Share.{ShareAnswer, exact, told}
+use Rattle.grids.specs.Share.{ShareAnswer, told}
 use Rattle.grids.proofs.Shares.{told_once}
 use Rattle.numbers.specs.Numbers.{signed_of, quotient_of, remainder_of}
 

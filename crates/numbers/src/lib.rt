@@ -27,7 +27,7 @@ pub fn share_of(a: ShareAnswer, rest: &mut u32) -> i64
             *rest = share.remainder;
             i64::from(share.quotient)
         }
-        Err(g) => -i64::from(u32::from(g)),
+        Err(g) => signed(Err(g)),
     }
 }
 
@@ -63,10 +63,9 @@ pub fn part_of<'a>(
 {
     if stages < 0 {
         *image = 0;
-        0
-    } else {
-        let n = stages as usize;
-        *image = image_of(n);
-        part_calls::part(n, w, h, first, second).len() as i64
+        return 0;
     }
+    let n = stages as usize;
+    *image = image_of(n);
+    part_calls::part(n, w, h, first, second).len() as i64
 }
