@@ -1,15 +1,12 @@
--- The loops over cells: one more and none left; and that the greatest cell decides ground 13 and the counts make the load and the measured cells.
-use mathlib.Core.Path.{◌≡◌, refl, sym, ◌∙◌, ap}
+-- The loops over cells: that the greatest cell decides ground 13 and the counts make the load and the measured cells.
+use mathlib.Core.Path.{◌≡◌, refl, ◌∙◌, ap}
 use mathlib.Core.Bool.{Bool, true, false, cond, not, ◌||◌}
-use mathlib.Core.List.{List, [], ◌∷◌}
-use Prim.Native.Nat.{ℕ, zero, suc, ◌+◌, ◌-◌, ◌≤◌, ◌<◌, max, min}
+use mathlib.Core.List.{List, [], ◌∷◌, ◌++◌}
+use Prim.Native.Nat.{ℕ, zero, suc, ◌+◌, ◌≤◌, max}
 use native.Mathlib.Omega.{arith}
-use native.Mathlib.Numerals.{add-one}
-use native.Mathlib.Decide.{dec_le}
 use borrow.Author.Tests.{ltb-true, ltb-false, lt-ltb, le-ltb, eqb-true}
 use lib.Dec.{ltb, eqb}
-use lib.ListN.{length, get_or, take, drop, drop_of_length-le}
-use lib.Seq.{drop-cons, drop-drop, take_all, take-length}
+use lib.ListN.{length, get_or}
 use Rattle.plane.specs.Lists.{keep}
 use Rattle.plane.proofs.Member.{length_keep}
 use Rattle.grids.specs.Frame.{full, unmeasured, highest, bad_cell, load}
@@ -17,20 +14,6 @@ use Rattle.grids.specs.Share.{measured}
 use Rattle.cell_steps.specs.Leaves.{greatest_of, count_of, counts_of, times_of, Counted}
 
 -- ---- the greatest cell
-
-pub greatest_one : (l : List ℕ) (i v : ℕ) → i < length l → max v (greatest_of (drop i l)) ≡ max (max v (get_or l i 0)) (greatest_of (drop (i + 1) l))
-greatest_one l i v h =
-    ap (λ s. max v (greatest_of s)) (drop-cons l i 0 h) ∙ ap (λ n. max v (max (get_or l i 0) (greatest_of (drop n l)))) (sym (add-one i))
-    ∙ regroup v (get_or l i 0) (greatest_of (drop (i + 1) l))
-  where
-    regroup : (a b c : ℕ) → max a (max b c) ≡ max (max a b) c
-    regroup a b c = omega arith
-
-pub greatest_none : (l : List ℕ) (i v : ℕ) → length l ≤ i → max v (greatest_of (drop i l)) ≡ v
-greatest_none l i v h = ap (λ s. max v (greatest_of s)) (drop_of_length-le l h) ∙ zero v
-  where
-    zero : (v : ℕ) → max v 0 ≡ v
-    zero v = omega arith
 
 -- ground 13 by the greatest cell
 pub greatest_at : (f : List ℕ) (i : ℕ) → get_or f i 0 ≤ greatest_of f
@@ -55,22 +38,10 @@ greatest_bad (v ∷ vs) = above v (greatest_of vs) ∙ ap (λ b. ltb highest v |
 
 -- ---- counts
 
-pub counts_one : (v : ℕ) (l : List ℕ) (i : ℕ) → i < length l → counts_of v (drop i l) ≡ count_of v (get_or l i 0) + counts_of v (drop (i + 1) l)
-counts_one v l i h = ap (counts_of v) (drop-cons l i 0 h) ∙ ap (λ n. count_of v (get_or l i 0) + counts_of v (drop n l)) (sym (add-one i))
-
-pub counts_none : (v : ℕ) (l : List ℕ) (i : ℕ) → length l ≤ i → counts_of v (drop i l) ≡ 0
-counts_none v l i h = ap (counts_of v) (drop_of_length-le l h)
-
--- a part of the cells from k on, and those behind it
-pub counts_part : (v : ℕ) (l : List ℕ) (k e : ℕ) → k ≤ e → counts_of v (drop k l) ≡ counts_of v (take (e - k) (drop k l)) + counts_of v (drop e l)
-counts_part v l k e h =
-    let i : k + (e - k) ≡ e = omega arith in
-    split (e - k) (drop k l) ∙ ap (λ r. counts_of v (take (e - k) (drop k l)) + counts_of v r) (drop-drop (e - k) k l ∙ ap (λ n. drop n l) i)
-  where
-    split : (n : ℕ) (l : List ℕ) → counts_of v l ≡ counts_of v (take n l) + counts_of v (drop n l)
-    split zero l = omega arith
-    split (suc n) [] = refl
-    split (suc n) (c ∷ cs) = let i = split n cs in omega arith
+-- the cells of one list, and then those of another
+pub counts_append : (v : ℕ) (a b : List ℕ) → counts_of v (a ++ b) ≡ counts_of v a + counts_of v b
+counts_append v [] b = omega arith
+counts_append v (c ∷ a) b = let i = counts_append v a b in omega arith
 
 -- each cell counts at most 1
 pub counts_most : (v : ℕ) (l : List ℕ) → counts_of v l ≤ length l
@@ -126,16 +97,3 @@ all_measured (c ∷ cs) h = go (eqb c unmeasured) refl (all_measured cs (omega a
         → length (cond (not b) (c ∷ keep (λ u. not (eqb u unmeasured)) cs) (keep (λ u. not (eqb u unmeasured)) cs)) ≡ length (c ∷ cs)
     go true q e = let n = eqb-true c unmeasured q in absurd (omega arith)
     go false q e = omega arith
-
--- ---- a part of a list
-
--- as far as the list goes
-pub take_as_far : (n : ℕ) (l : List ℕ) → take (min n (length l)) l ≡ take n l
-take_as_far n l = go (dec_le n (length l))
-  where
-    go : Dec (n ≤ length l) → take (min n (length l)) l ≡ take n l
-    go (yes h) = let e : min n (length l) ≡ n = omega arith in ap (λ k. take k l) e
-    go (no h) =
-        let e : min n (length l) ≡ length l = omega arith in
-        let s : length l ≤ n = omega arith in
-        ap (λ k. take k l) e ∙ take-length l ∙ sym (take_all n l s)

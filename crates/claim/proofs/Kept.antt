@@ -7,7 +7,7 @@ use native.Mathlib.Omega.{arith}
 use lib.Dec.{T}
 use lib.ListN.{length, drop}
 use Rattle.words.specs.Ground.{Answer}
-use Rattle.std.specs.Prelude.{Ok}
+use Rattle.std.specs.Prelude.{Ok, Err}
 use Rattle.cleaning.specs.declared.Operation.{Operation}
 use Rattle.plane.specs.Point.{Point}
 use Rattle.words.specs.Ground.{Test, first_of, stated, result, Answered}

@@ -6,6 +6,8 @@ ghost use Rattle.std.specs.Prelude.{◌≡◌, ◌+◌, ◌*◌, ◌≤◌, leng
 ghost use Rattle.ranges.specs.Ranges.{over_front, Laid, Ranged};
 ghost use Rattle.cuts.specs.Cuts.{cut_out, Cut, shifted, seen};
 
+use cuts::{Part, Sides};
+
 // One row from a row of the source: the cells left of that row, those of it, and those right of it.
 fn line(row: &[u8], d: &mut [u8], a: usize, outside: u8)
     requires { (length row.now ≤ 65535) × (a ≤ 65535) }
@@ -26,87 +28,50 @@ fn line(row: &[u8], d: &mut [u8], a: usize, outside: u8)
 }
 
 // One row from the source's row t − 15, or from above or below the source.
-fn across(src: &[u8], d: &mut [u8], columns: usize, rows: usize, a: usize, t: usize, outside: u8)
-    requires { (columns * rows ≤ length src.now) × (columns ≤ 65535) × (rows ≤ 65535) × (a ≤ 65535) }
-    ensures { Ranged 0 0 (length d.old) (λ x. seen outside columns rows src.now (x + a) t) d.old d.new }
+fn across(src: &[u8], d: &mut [u8], source: Sides, a: usize, t: usize)
+    requires { (source.columns * source.rows ≤ length src.now) × (source.columns ≤ 65535) × (source.rows ≤ 65535) × (a ≤ 65535) }
+    ensures { Ranged 0 0 (length d.old) (λ x. seen source.outside source.columns source.rows src.now (x + a) t) d.old d.new }
 {
-    if t < 15 {
-        ranges::fill(d, outside);
+    if t < 15 || source.rows <= t - 15 {
+        ranges::fill(d, source.outside);
         return;
     }
-    if rows <= t - 15 {
-        ranges::fill(d, outside);
-        return;
-    }
-    let q = (t - 15) * columns;
-    line(&src[q..q + columns], d, a, outside);
+    let q = (t - 15) * source.columns;
+    line(&src[q..q + source.columns], d, a, source.outside);
 }
 
-// The first h rows, the first first.
-fn upper(
-    src: &[u8],
-    dst: &mut [u8],
-    w: usize,
-    h: usize,
-    columns: usize,
-    rows: usize,
-    a: usize,
-    b: usize,
-    outside: u8,
-)
-    requires { (columns * rows ≤ length src.now) × (w * h ≤ length dst.old) ×
-        (w ≤ 65535) × (h ≤ 65535) × (columns ≤ 65535) × (rows ≤ 65535) × (a ≤ 65535) × (b ≤ 65535) }
-    ensures { Laid (λ x y. seen outside columns rows src.now (x + a) (y + b)) w h dst.old dst.new }
+// The rows of a part, the first first.
+fn upper(src: &[u8], dst: &mut [u8], part: Part, source: Sides)
+    requires { (source.columns * source.rows ≤ length src.now) × (part.w * part.h ≤ length dst.old) ×
+        (part.w ≤ 65535) × (part.h ≤ 65535) × (source.columns ≤ 65535) × (source.rows ≤ 65535) × (part.a ≤ 65535) × (part.b ≤ 65535) }
+    ensures { Laid (λ x y. seen source.outside source.columns source.rows src.now (x + part.a) (y + part.b)) part.w part.h dst.old dst.new }
 {
-    let mut p: usize = 0;
-    let mut y: usize = 0;
-    while y < h {
-        across(src, &mut dst[p..p + w], columns, rows, a, y + b, outside);
-        p += w;
-        y += 1;
+    for y in 0..part.h {
+        let p = y * part.w;
+        across(src, &mut dst[p..p + part.w], source, part.a, y + part.b);
     }
 }
 
 // All rows: one by one as far as the source goes, and those below it in one run. A loop over all of them would look, to the compiler, as if it read past the
 // source, and where the image stands there, cells would be copied one at a time.
-fn down(
-    src: &[u8],
-    dst: &mut [u8],
-    w: usize,
-    h: usize,
-    columns: usize,
-    rows: usize,
-    a: usize,
-    b: usize,
-    outside: u8,
-)
-    requires { (columns * rows ≤ length src.now) × (w * h ≤ length dst.old) ×
-        (w ≤ 65535) × (h ≤ 65535) × (columns ≤ 65535) × (rows ≤ 65535) × (a ≤ 65535) × (b ≤ 65535) }
-    ensures { dst.new ≡ over_front (w * h) (cut_out outside w h columns rows a b src.now) dst.old }
+fn down(src: &[u8], dst: &mut [u8], part: Part, source: Sides)
+    requires { (source.columns * source.rows ≤ length src.now) × (part.w * part.h ≤ length dst.old) ×
+        (part.w ≤ 65535) × (part.h ≤ 65535) × (source.columns ≤ 65535) × (source.rows ≤ 65535) × (part.a ≤ 65535) × (part.b ≤ 65535) }
+    ensures { dst.new ≡ over_front (part.w * part.h) (cut_out source.outside part.w part.h source.columns source.rows part.a part.b src.now) dst.old }
 {
-    let n = cuts::edge(h, b, rows + 15);
-    upper(src, dst, w, n, columns, rows, a, b, outside);
-    ranges::fill(&mut dst[n * w..h * w], outside);
+    let n = cuts::edge(part.h, part.b, source.rows + 15);
+    upper(src, dst, Part { h: n, ..part }, source);
+    ranges::fill(&mut dst[n * part.w..part.h * part.w], source.outside);
 }
 
-// Cuts w columns and h rows out of src, which has columns and rows of its own, into dst: cell (x, y) becomes the source's (x + a − 15, y + b − 15), and
-// outside where the source has no such cell. False, with nothing written, where sizes do not fit.
-pub fn cut(
-    src: &[u8],
-    dst: &mut [u8],
-    w: usize,
-    h: usize,
-    columns: usize,
-    rows: usize,
-    a: usize,
-    b: usize,
-    outside: u8,
-) -> bool
-    ensures { Cut outside w h columns rows a b src.now dst.old result dst.new }
+// Cuts a part out of the source in src into dst: cell (x, y) becomes the source's (x + a − 15, y + b − 15), and outside where the source has no such cell.
+// False, with nothing written, where sizes do not fit.
+pub fn cut(src: &[u8], dst: &mut [u8], part: Part, source: Sides) -> bool
+    ensures { Cut source.outside part.w part.h source.columns source.rows part.a part.b src.now dst.old result dst.new }
 {
-    if !cuts::cut_fits(w, h, columns, rows, a, b, src.len(), dst.len()) {
+    if !part.cut_fits(source, src.len(), dst.len()) {
         return false;
     }
-    down(src, dst, w, h, columns, rows, a, b, outside);
+    down(src, dst, part, source);
     true
 }

@@ -1,3 +1,4 @@
 pub mod Sides
 pub mod Accepted
 pub mod Looked
+pub mod Behind

@@ -6,30 +6,21 @@ ghost use Rattle.grids.specs.Frame.{bad_side, bad_size, wrong_length, grid_size,
 fn bad_side(n: usize) -> bool
     ensures { result ≡ bad_side n }
 {
-    if n == 0 {
-        return true;
-    }
-    240 < n
+    n == 0 || 240 < n
 }
 
 // Ground 11: whether one of the sides isn't 1 to 240.
 pub(crate) fn bad_size(w: usize, h: usize) -> bool
     ensures { result ≡ bad_size w h }
 {
-    if bad_side(w) {
-        return true;
-    }
-    bad_side(h)
+    bad_side(w) || bad_side(h)
 }
 
 // Ground 12: whether the frame's length isn't W × H. It follows ground 11, so nothing is said of sides that this refuses.
 pub(crate) fn wrong_length(w: usize, h: usize, frame: &[u8]) -> bool
     ensures { bad_size w h ≡ false → result ≡ wrong_length w h frame.now }
 {
-    if bad_size(w, h) {
-        return false;
-    }
-    frame.len() != w * h
+    !bad_size(w, h) && frame.len() != w * h
 }
 
 // The number of bytes in the grid of a frame.
@@ -44,18 +35,12 @@ pub(crate) fn grid_size(w: usize, h: usize) -> usize
 pub(crate) fn short_image(w: usize, h: usize, image: &[u8]) -> bool
     ensures { bad_size w h ≡ false → result ≡ short_image w h image.now }
 {
-    if bad_size(w, h) {
-        return false;
-    }
-    image.len() < grid_size(w, h)
+    !bad_size(w, h) && image.len() < grid_size(w, h)
 }
 
 // Ground 14 of two work images: whether either is shorter than the grid.
 pub(crate) fn short_images(w: usize, h: usize, first: &[u8], second: &[u8]) -> bool
     ensures { bad_size w h ≡ false → result ≡ (short_image w h first.now || short_image w h second.now) }
 {
-    if short_image(w, h, first) {
-        return true;
-    }
-    short_image(w, h, second)
+    short_image(w, h, first) || short_image(w, h, second)
 }

@@ -9,11 +9,10 @@ ghost use Rattle.rows.specs.Cells.{Same, At};
 ghost use Rattle.lists.specs.Held.{held_anchor, held_place, held_cells, held_masks};
 ghost use Rattle.lists.specs.Held.{CellsOf, WithWord, WithStage, SumRows};
 
-use readers::Item;
 use words::Word;
 
 // Two numbers of a word.
-#[derive(Drop)]
+#[derive(Clone, Copy)]
 pub struct Pair {
     pub x: u32,
     pub y: u32,
@@ -23,19 +22,14 @@ pub struct Pair {
 fn word_at(ws: &[u32], at: usize) -> Word
     ensures { result ≡ word_of (get_or ws.now at 0) }
 {
-    let item = readers::read_at(ws, at);
-    match item {
-        Item::Found(word) => word,
-        Item::End => Word::Unused(0),
-    }
+    readers::read_at(ws, at).unwrap_or(Word::Unused(0))
 }
 
 // The anchor of a shape list, its first word; 0 and 0 where that is none.
 pub fn read_anchor(ws: &[u32]) -> Pair
     ensures { (result.x ≡ (held_anchor ws.now).0) × (result.y ≡ (held_anchor ws.now).1) }
 {
-    let word = word_at(ws, 0);
-    match word {
+    match word_at(ws, 0) {
         Word::Anchor { ax, ay } => Pair { x: ax, y: ay },
         _ => Pair { x: 0, y: 0 },
     }
@@ -45,26 +39,18 @@ pub fn read_anchor(ws: &[u32]) -> Pair
 pub fn read_place(ws: &[u32]) -> Pair
     ensures { (result.x ≡ (held_place ws.now).0) × (result.y ≡ (held_place ws.now).1) }
 {
-    let word = word_at(ws, 1);
-    match word {
-        Word::Place { x, y } => Pair { x: x, y: y },
+    match word_at(ws, 1) {
+        Word::Place { x, y } => Pair { x, y },
         _ => Pair { x: 0, y: 0 },
     }
 }
 
-// The rows z with the cells of the word at a position. A row may stand twice in a damaged list.
-fn with_word(z: [u16; 16], ws: &[u32], at: usize) -> [u16; 16]
-    ensures { WithWord z (get_or ws.now at 0) result }
+// Adds the cells of the word at a position to the rows z. A row may stand twice in a damaged list.
+fn with_word(z: &mut [u16; 16], ws: &[u32], at: usize)
+    ensures { WithWord z.old (get_or ws.now at 0) z.new }
 {
-    let word = word_at(ws, at);
-    match word {
-        Word::Row { y, columns } => {
-            let mut r = z;
-            let j = (y % 16) as usize;
-            r[j] = r[j] | ((columns % 0x1_0000) as u16);
-            r
-        }
-        _ => z,
+    if let Word::Row { y, columns } = word_at(ws, at) {
+        z[(y % 16) as usize] |= (columns % 0x1_0000) as u16;
     }
 }
 
@@ -73,11 +59,8 @@ pub fn read_rows(ws: &[u32]) -> [u16; 16]
     ensures { Same (At result) (CellsOf (held_cells ws.now)) }
 {
     let mut r = [0u16; 16];
-    let mut i: usize = 1;
-    while i < ws.len() {
-        let next = with_word(r, ws, i);
-        r = next;
-        i += 1;
+    for i in 1..ws.len() {
+        with_word(&mut r, ws, i);
     }
     r
 }
@@ -86,12 +69,8 @@ pub fn read_rows(ws: &[u32]) -> [u16; 16]
 fn with_stage(z: [u16; 16], ws: &[u32], at: usize) -> [u16; 16]
     ensures { WithStage z (get_or ws.now at 0) result }
 {
-    let word = word_at(ws, at);
-    match word {
-        Word::Stage(m) => {
-            let mask = row_steps::mask_rows((m % 512) as u16);
-            row_sum_steps::sum_of(z, mask)
-        }
+    match word_at(ws, at) {
+        Word::Stage(m) => row_sum_steps::sum_of(z, row_steps::mask_rows((m % 512) as u16)),
         _ => z,
     }
 }
@@ -102,11 +81,8 @@ pub fn plan_rows(ws: &[u32]) -> [u16; 16]
 {
     let mut r = [0u16; 16];
     r[0] = 1;
-    let mut i: usize = ws.len();
-    while i > 2 {
-        i -= 1;
-        let next = with_stage(r, ws, i);
-        r = next;
+    for i in (2..ws.len()).rev() {
+        r = with_stage(r, ws, i);
     }
     r
 }

@@ -1,4 +1,4 @@
--- What a reader's item is as a word, what a word of each kind holds, and how large its fields are.
+-- How large the fields of a word of each kind are.
 use mathlib.Core.Path.{◌≡◌, refl, sym, ap, subst, ◌∙◌}
 use mathlib.Core.Logic.{◌≢◌, ⊎_elim}
 use mathlib.Core.Bool.{Bool, true, false}
@@ -16,50 +16,6 @@ use Rattle.readers.specs.Cursor.{item_at}
 use Rattle.std.specs.Prelude.{Option, Some, None}
 use Rattle.readers.proofs.Positions.{item_here, item_end}
 use Rattle.lists.specs.Held.{cells_in, anchor_in, place_in, mask_in}
-
--- the word that an item is; the end is one of no used kind, as is the word 0, which stands for what is past a list
-abbrev pub word_in : Option Word → Word
-word_in (Some v) = v
-word_in None = Unused 0
-
-pub word_in_lem : (ws : List ℕ) (at : ℕ) → word_in (item_at ws at) ≡ word_of (get_or ws at 0)
-word_in_lem ws at = ⊎_elim
-    (λ (h : at < length ws). ap word_in (item_here ws at h))
-    (λ (h : length ws ≤ at). ap word_in (item_end ws at h) ∙ ap word_of (sym (get_or-eq_default ws 0 h)))
-    (lt_or_le at (length ws))
-
--- a word that is none of a kind holds nothing of that kind
-pub no_anchor : (w : Word) → ((ax ay : ℕ) → w ≢ Anchor ax ay) → anchor_in w ≡ (0, 0)
-no_anchor (Anchor ax ay) h = absurd (h ax ay refl)
-no_anchor (Row y columns) h = refl
-no_anchor (Head n) h = refl
-no_anchor (Place x y) h = refl
-no_anchor (Stage m) h = refl
-no_anchor (Unused k) h = refl
-
-pub no_row : (w : Word) → ((y columns : ℕ) → w ≢ Row y columns) → cells_in w ≡ []
-no_row (Anchor ax ay) h = refl
-no_row (Row y columns) h = absurd (h y columns refl)
-no_row (Head n) h = refl
-no_row (Place x y) h = refl
-no_row (Stage m) h = refl
-no_row (Unused k) h = refl
-
-pub no_place : (w : Word) → ((x y : ℕ) → w ≢ Place x y) → place_in w ≡ (0, 0)
-no_place (Anchor ax ay) h = refl
-no_place (Row y columns) h = refl
-no_place (Head n) h = refl
-no_place (Place x y) h = absurd (h x y refl)
-no_place (Stage m) h = refl
-no_place (Unused k) h = refl
-
-pub no_stage : (w : Word) → ((m : ℕ) → w ≢ Stage m) → mask_in w ≡ []
-no_stage (Anchor ax ay) h = refl
-no_stage (Row y columns) h = refl
-no_stage (Head n) h = refl
-no_stage (Place x y) h = refl
-no_stage (Stage m) h = absurd (h m refl)
-no_stage (Unused k) h = refl
 
 -- ---- the fields of a word
 

@@ -103,12 +103,6 @@ word_row z w y c l e =
     (subst (λ j. Same (At (set z j (bit_or (get_or z j 0) (c % 65536)))) (Either (At z) (CellsOf (row_cells y c)))) q
     (row_joined z y c (omega arith)))
 
-pub word_none : (z : List ℕ) (w : ℕ) → cells_in (word_of w) ≡ [] → WithWord z w z
-word_none z w e = record {
-  to = λ x y h. inl h;
-  from = λ x y h. ⊎_elim (λ u. u) (λ u. absurd (subst (λ cs. In cs (x, y)) e u)) h;
-}
-
 -- ---- the words up to i are read into r
 
 abbrev pub ReadTo : List ℕ → ℕ → List ℕ → Type 0

@@ -51,9 +51,6 @@ stage_sum z a r w m e h o =
     let q : m % 512 % 512 ≡ m = omega arith in
     record { added = λ ms p. subst (λ v. SumRows (mask_in v ++ ms) r) (sym e) (mask_sum m z a r ms (subst (λ k. Same (At a) (AtMask k)) q h) o p) }
 
-pub stage_none : (z : List ℕ) (w : ℕ) → mask_in (word_of w) ≡ [] → WithStage z w z
-stage_none z w e = record { added = λ ms p. subst (λ ns. SumRows (ns ++ ms) z) (sym e) p }
-
 -- ---- the words from i on are summed
 
 origin_to : (x y : ℕ) → At (1 ∷ replicate 15 0) x y → AtOrigin x y

@@ -6,60 +6,53 @@ ghost use Rattle.grids.specs.Frame.{LoadCounted};
 ghost use Rattle.grids.specs.Share.{Shared};
 ghost use Rattle.grids.specs.Share.{measured as measuredOf};
 ghost use Rattle.cell_steps.specs.Leaves.{greatest_of};
-ghost use Rattle.grids.specs.declared.Share.TheVariants.{Exact};
 
-use grids::Share;
+use grids::{Share, ShareAnswer};
 use words::{Answer, Ground};
 
 // The load: the number of occupied cells in a frame.
+#[tactic(auto, using(frame_grounds::proofs::Accepted::countable, cell_steps::proofs::Loops::times_load))]
 pub fn load(w: usize, h: usize, frame: &[u8]) -> Answer
     ensures { LoadCounted w h frame.now result }
 {
-    let tested = frame_grounds::frame_refusal(w, h, frame);
-    if let Answer::Refused(ground) = tested {
-        return Answer::Refused(ground);
-    }
-    let n = cell_steps::times(frame, 1);
-    Answer::Done(n)
+    frame_grounds::frame_refusal(w, h, frame)?;
+    Ok(cell_steps::times(frame, 1))
 }
 
 // The number of measured cells of a frame whose greatest number is this: all of them where none is 2.
+#[tactic(auto, using(cell_steps::proofs::Loops::counted_most, cell_steps::proofs::Loops::times_measured, cell_steps::proofs::Loops::all_measured))]
 fn measured(frame: &[u8], greatest: u8) -> u32
     requires { (length frame.now ≤ 57600) × (greatest ≡ greatest_of frame.now) }
     ensures { result ≡ measuredOf frame.now }
 {
     let all = frame.len() as u32;
     if greatest < 2 {
-        return all;
+        all
+    } else {
+        all - cell_steps::times(frame, 2)
     }
-    all - cell_steps::times(frame, 2)
 }
 
 // Some of all cells, in ten-thousandths.
 fn ten_thousandths(some: u32, all: u32) -> Share
     requires { (some ≤ 57600) × (0 < all) }
-    ensures { result ≡ Exact (10000 * some / all) (10000 * some % all) }
+    ensures { (result.quotient ≡ 10000 * some / all) × (result.remainder ≡ 10000 * some % all) }
 {
     let n = 10_000 * some;
-    Share::Exact {
+    Share {
         quotient: n / all,
         remainder: n % all,
     }
 }
 
 // The load in ten-thousandths of the cells that were measured; where none was, the frame is refused.
-pub fn share(w: usize, h: usize, frame: &[u8]) -> Share
+pub fn share(w: usize, h: usize, frame: &[u8]) -> ShareAnswer
     ensures { Shared w h frame.now result }
 {
     let greatest = frame_grounds::greatest_cell(w, h, frame);
-    let tested = frame_grounds::frame_tested(w, h, frame, greatest);
-    if let Answer::Refused(ground) = tested {
-        return Share::Refused(ground);
-    }
+    frame_grounds::frame_tested(w, h, frame, greatest)?;
     let all = measured(frame, greatest);
-    if all == 0 {
-        return Share::Refused(Ground::NoneMeasured);
-    }
+    words::tried(all == 0, Ground::NoneMeasured)?;
     let n = cell_steps::times(frame, 1);
-    ten_thousandths(n, all)
+    Ok(ten_thousandths(n, all))
 }

@@ -2,7 +2,7 @@
 use mathlib.Core.Path.{◌≡◌, refl, sym, ◌∙◌, ap, subst}
 use mathlib.Core.Bool.{Bool, true, false, cond, ◌||◌}
 use mathlib.Core.List.{List, []}
-use Prim.Native.Nat.{ℕ, ◌*◌, ◌%◌}
+use Prim.Native.Nat.{ℕ, ◌*◌, ◌%◌, ◌≤◌}
 use native.Mathlib.Omega.{arith}
 use lib.Dec.{T, ltb, eqb}
 use lib.IntN.{ℤ, pos, negsuc, nat_abs}
@@ -10,7 +10,8 @@ use lib.ListN.{length, take}
 use lib.Seq.{length-take-le}
 use lib.Signed.{lt_z, non_neg}
 use mir.Syntax.{w64}
-use mir.Val.{Fits, SFits}
+use mir.Val.{Fits, SFits, to_z, of_z}
+use mir.ValLaws.{to_z-of_z, to_z_pos}
 use borrow.Author.Tests.{ltb-true, ltb-false}
 use Rattle.plane.proofs.Tests.{or_none}
 use Rattle.grids.specs.Frame.{bad_size}
@@ -66,3 +67,12 @@ ran_fits (negsuc n) t f = absurd (subst T t tt)
 pub found_for : {a b : ℤ} {W H : ℕ} {i j : List ℕ} {r s : ℤ} {k : ℕ} → a ≡ b → s ≡ r → PartFound a W H i j r k → PartFound b W H i j s k
 found_for {a = a} {W = W} {H = H} {i = i} {j = j} {r = r} {s = s} {k = k} e f p =
     subst (λ n. PartFound n W H i j s k) e (subst (λ n. PartFound a W H i j n k) (sym f) p)
+
+-- the part that is found for an answer that is not below 0, as its length and its image are said
+pub found_here : (a : ℤ) (W H : ℕ) (i j : List ℕ) (k : ℕ) (p : List ℕ) → SFits w64 a → lt_z (to_z w64 (of_z w64 a)) (pos 0) ≡ false
+    → k ≡ image_of (pos (nat_abs (to_z w64 (of_z w64 a)))) → p ≡ part (nat_abs (to_z w64 (of_z w64 a))) W H i j → length p ≤ 0x7fffffffffffffff
+    → PartFound a W H i j (to_z w64 (length p)) k
+found_here a W H i j k p f t e q l =
+    let r = to_z-of_z w64 a f in
+    let is = ap (λ z. pos (nat_abs z)) r ∙ ran a (subst (λ z. lt_z z (pos 0) ≡ false) r t) in
+    found _ W H i j is e q (to_z_pos w64 _ (omega arith))

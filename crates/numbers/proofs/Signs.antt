@@ -1,34 +1,15 @@
--- A refusal's number, taken from 0, fits 64 bits and is −N.
-use mathlib.Core.Path.{◌≡◌, sym, ◌∙◌, ap, ap₂, subst, refl}
+-- A number stands for one answer.
+use mathlib.Core.Path.{◌≡◌, sym, ◌∙◌, ap, ap₂, refl}
 use Prim.Native.Nat.{ℕ, zero, suc, ◌≤◌}
 use native.Mathlib.Omega.{arith}
-use lib.IntN.{ℤ, pos, neg_ℤ, ◌-ℤ◌, +ℤ_idl, negsuc}
-use lib.Signed.{mag}
-use mir.Syntax.{w64}
-use mir.Val.{SFits, to_z, of_z}
-use mir.ValLaws.{to_z-of_z, to_z_pos}
+use lib.IntN.{ℤ, pos, neg_ℤ, negsuc}
 use Rattle.words.specs.Ground.{Answer}
 use Rattle.std.specs.Prelude.{Ok, Err}
-use Rattle.words.specs.declared.Ground.{Ground}
 use Rattle.words.specs.Ground.{number_of, stated}
 use Rattle.words.proofs.Refusals.{stated_once, ground_small}
-use Rattle.grids.specs.Share.{ShareAnswer, exact, told}
+use Rattle.grids.specs.Share.{ShareAnswer, told}
 use Rattle.grids.proofs.Shares.{told_once}
 use Rattle.numbers.specs.Numbers.{signed_of, quotient_of, remainder_of}
-
-mag_negated : (n : ℕ) → mag (neg_ℤ (pos n)) ≤ n
-mag_negated zero = omega arith
-mag_negated (suc n) = omega arith
-
-module _ (g : Ground) (n : ℕ) (e : n ≡ number_of g) where
-  taken : pos 0 -ℤ to_z w64 n ≡ neg_ℤ (pos n)
-  taken = ap (λ z. pos 0 -ℤ z) (to_z_pos w64 n (let l = ground_small g in omega arith)) ∙ +ℤ_idl (neg_ℤ (pos n))
-
-  pub negated_fits : SFits w64 (pos 0 -ℤ to_z w64 n)
-  negated_fits = subst (SFits w64) (sym taken) (record { sfits = (let l = ground_small g in let m = mag_negated n in omega arith) })
-
-  pub negated_is : to_z w64 (of_z w64 (pos 0 -ℤ to_z w64 n)) ≡ neg_ℤ (pos (number_of g))
-  negated_is = to_z-of_z w64 (pos 0 -ℤ to_z w64 n) negated_fits ∙ taken ∙ ap (λ k. neg_ℤ (pos k)) e
 
 -- ---- a number stands for one answer
 

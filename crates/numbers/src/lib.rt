@@ -5,7 +5,7 @@
 ghost use Rattle.std.specs.Prelude.{◌≡◌, pos};
 ghost use Rattle.numbers.specs.Numbers.{signed_of, quotient_of, remainder_of, around_of, image_of, PartFound};
 
-use grids::{Around, Share};
+use grids::{Around, ShareAnswer};
 use words::Answer;
 
 // The result, or −N for refusal N.
@@ -13,24 +13,21 @@ pub fn signed(a: Answer) -> i64
     ensures { result ≡ signed_of a }
 {
     match a {
-        Answer::Done(n) => n as i64,
-        Answer::Refused(g) => -(words::number(g) as i64),
+        Ok(n) => i64::from(n),
+        Err(g) => -i64::from(u32::from(g)),
     }
 }
 
 // The quotient, or −N for refusal N; the remainder goes to rest, which a refusal leaves as it is.
-pub fn share_of(a: Share, rest: &mut u32) -> i64
+pub fn share_of(a: ShareAnswer, rest: &mut u32) -> i64
     ensures { (result ≡ quotient_of a) × (rest.new ≡ remainder_of a rest.old) }
 {
     match a {
-        Share::Exact {
-            quotient,
-            remainder,
-        } => {
-            *rest = remainder;
-            quotient as i64
+        Ok(share) => {
+            *rest = share.remainder;
+            i64::from(share.quotient)
         }
-        Share::Refused(g) => -(words::number(g) as i64),
+        Err(g) => signed(Err(g)),
     }
 }
 
@@ -39,19 +36,17 @@ pub fn around_of(b: u8) -> Around
     ensures { result ≡ around_of b }
 {
     if b == 0 {
-        return Around::Free;
+        Around::Free
+    } else {
+        Around::Occupied
     }
-    Around::Occupied
 }
 
 // The number of the image that the part is in: 2, the second, if the number of stages run is even, and 1, the first, if odd.
 fn image_of(n: usize) -> u8
     ensures { result ≡ image_of (pos n) }
 {
-    if n % 2 == 0 {
-        return 2;
-    }
-    1
+    if n % 2 == 0 { 2 } else { 1 }
 }
 
 // The part, for the number that an operation answered: its length, and in image the number of the image that it is the start of. A refusal's
@@ -72,6 +67,5 @@ pub fn part_of<'a>(
     }
     let n = stages as usize;
     *image = image_of(n);
-    let found = part_calls::part(n, w, h, first, second);
-    found.len() as i64
+    part_calls::part(n, w, h, first, second).len() as i64
 }

@@ -10,9 +10,10 @@ fn cells(w: usize, h: usize) -> usize
     ensures { result ≡ cond (bad_size w h) 0 (w * h) }
 {
     if frame_grounds::bad_size(w, h) {
-        return 0;
+        0
+    } else {
+        w * h
     }
-    w * h
 }
 
 // The first n bytes of an image, or none if it has fewer.
@@ -20,17 +21,17 @@ fn start<'a>(image: &'a [u8], n: usize) -> &'a [u8]
     ensures { result.now ≡ cond (ltb (length image.now) n) [] (take n image.now) }
 {
     if image.len() < n {
-        return &image[0..0];
+        &image[0..0]
+    } else {
+        &image[0..n]
     }
-    &image[0..n]
 }
 
 // The part for n stages run: of the second image if n is even, of the first if odd.
+#[tactic(auto, unfolding(cleaning::specs::Cleaning::part))]
 pub fn part<'a>(n: usize, w: usize, h: usize, first: &'a [u8], second: &'a [u8]) -> &'a [u8]
     ensures { result.now ≡ part_of n w h first.now second.now }
 {
-    if n % 2 == 0 {
-        return start(second, cells(w, h));
-    }
-    start(first, cells(w, h))
+    let image = if n % 2 == 0 { second } else { first };
+    start(image, cells(w, h))
 }

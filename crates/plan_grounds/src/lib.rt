@@ -4,27 +4,21 @@
 
 ghost use Rattle.std.specs.Prelude.{◌≡◌, false, not, ◌≤◌, length, drop};
 ghost use Rattle.plane.specs.Lists.{any, any_next};
-ghost use Rattle.words.specs.Ground.{stated, refusal, first_of};
+ghost use Rattle.words.specs.Ground.{refused_by, first_of};
 ghost use Rattle.words.specs.Word.{stage_mask};
 ghost use Rattle.masks.specs.Mask.{stage};
 ghost use Rattle.shapes.specs.Shape.{out_of_range};
 ghost use Rattle.shapes.specs.Plan.{plan_tests, wrong_plan_kinds, wrong_plan_bits, wrong_count, wrong_place, wrong_masks, plan_masks, plan_points};
 ghost use Rattle.plan_grounds.specs.Leaves.{falls};
 
-use words::{Answer, Ground};
+use words::Ground;
 
 // Ground 2: whether the first word is no head, the second no place, or some other no stage.
 fn wrong_kinds(ws: &[u32]) -> bool
     requires { 2 ≤ length ws.now }
     ensures { result ≡ wrong_plan_kinds ws.now }
 {
-    if ws[0] / 0x1000_0000 != 3 {
-        return true;
-    }
-    if ws[1] / 0x1000_0000 != 4 {
-        return true;
-    }
-    word_grounds::wrong_kind(ws, 2, 5)
+    ws[0] / 0x1000_0000 != 3 || ws[1] / 0x1000_0000 != 4 || word_grounds::wrong_kind(ws, 2, 5)
 }
 
 // Ground 3: a head names 8 bits, a place 16, a stage 9.
@@ -32,13 +26,9 @@ fn extra_bits(ws: &[u32]) -> bool
     requires { 2 ≤ length ws.now }
     ensures { result ≡ wrong_plan_bits ws.now }
 {
-    if ws[0] % 0x1000_0000 >= 256 {
-        return true;
-    }
-    if ws[1] % 0x1000_0000 >= 0x1_0000 {
-        return true;
-    }
-    word_grounds::extra_bit(ws, 2, 512)
+    ws[0] % 0x1000_0000 >= 256
+        || ws[1] % 0x1000_0000 >= 0x1_0000
+        || word_grounds::extra_bit(ws, 2, 512)
 }
 
 // Ground 5: whether the head's count isn't the number of words less 2.
@@ -55,48 +45,30 @@ fn wrong_place(ws: &[u32]) -> bool
     requires { 2 ≤ length ws.now }
     ensures { result ≡ wrong_place ws.now }
 {
-    if ws[1] % 256 > 30 {
-        return true;
-    }
-    ws[1] / 256 % 256 > 30
+    ws[1] % 256 > 30 || ws[1] / 256 % 256 > 30
 }
 
 // Whether some mask is no stage.
 fn some_no_stage(ws: &[u32]) -> bool
     ensures { result ≡ any (λ w. not (stage (stage_mask w))) (drop 2 ws.now) }
 {
-    let mut i: usize = 2;
-    while i < ws.len() {
-        if !stage_steps::is_stage(ws[i] % 512) {
-            return true;
-        }
-        i += 1;
-    }
-    false
+    ws.iter().skip(2).any(|w| !stage_steps::is_stage(w % 512))
 }
 
 // Whether some mask is below the mask before.
 fn falling(ws: &[u32]) -> bool
     ensures { result ≡ any_next falls (drop 2 ws.now) }
 {
-    let mut i: usize = 3;
-    while i < ws.len() {
-        if ws[i] % 512 < ws[i - 1] % 512 {
-            return true;
-        }
-        i += 1;
-    }
-    false
+    let mut pairs = ws.iter().skip(2).zip(ws.iter().skip(3));
+    pairs.any(|(v, w)| w % 512 < v % 512)
 }
 
 // Ground 7: whether a mask is no stage, or is below the mask before.
+#[tactic(auto, using(crate::proofs::Stages::masks_tried))]
 fn wrong_masks(ws: &[u32]) -> bool
     ensures { result ≡ wrong_masks (plan_masks ws.now) }
 {
-    if some_no_stage(ws) {
-        return true;
-    }
-    falling(ws)
+    some_no_stage(ws) || falling(ws)
 }
 
 // Ground 8, from the extents of the sum and the place; the masks are stages, so each reaches down to 0.
@@ -106,32 +78,19 @@ fn out_of_range(ws: &[u32]) -> bool
 {
     let w = plan_steps::extent(ws, false);
     let h = plan_steps::extent(ws, true);
-    if w > 15 {
-        return true;
-    }
-    if h > 15 {
-        return true;
-    }
-    if ws[1] % 256 + w > 30 {
-        return true;
-    }
-    ws[1] / 256 % 256 + h > 30
+    w > 15 || h > 15 || ws[1] % 256 + w > 30 || ws[1] / 256 % 256 + h > 30
 }
 
-// What refuses a plan list: the first of grounds 1 to 3 and 5 to 8 that holds, each tried over the whole list; Done(0) where none does.
-pub fn plan_refusal(ws: &[u32]) -> Answer
-    ensures { stated result ≡ refusal (first_of (plan_tests ws.now)) }
+// What refuses a plan list: the first of grounds 1 to 3 and 5 to 8 that holds, each tried over the whole list, or `Ok` where none does.
+#[tactic(auto, unfolding(shapes::specs::Plan::plan_tests))]
+pub fn plan_refusal(ws: &[u32]) -> Result<(), Ground>
+    ensures { refused_by result ≡ first_of (plan_tests ws.now) }
 {
-    if word_grounds::wrong_length(ws, 2, 32) {
-        return Answer::Refused(Ground::ListLength);
-    }
-    let kinds = words::tried(Answer::Done(0), wrong_kinds(ws), Ground::WordKind);
-    let bits = words::tried(kinds, extra_bits(ws), Ground::ExtraBit);
-    let count = words::tried(bits, wrong_count(ws), Ground::StageCount);
-    let place = words::tried(count, wrong_place(ws), Ground::PlaceField);
-    let masks = words::tried(place, wrong_masks(ws), Ground::StageMask);
-    if let Answer::Refused(ground) = masks {
-        return Answer::Refused(ground);
-    }
-    words::tried(masks, out_of_range(ws), Ground::OutOfRange)
+    words::tried(word_grounds::wrong_length(ws, 2, 32), Ground::ListLength)?;
+    words::tried(wrong_kinds(ws), Ground::WordKind)?;
+    words::tried(extra_bits(ws), Ground::ExtraBit)?;
+    words::tried(wrong_count(ws), Ground::StageCount)?;
+    words::tried(wrong_place(ws), Ground::PlaceField)?;
+    words::tried(wrong_masks(ws), Ground::StageMask)?;
+    words::tried(out_of_range(ws), Ground::OutOfRange)
 }

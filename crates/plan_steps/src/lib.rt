@@ -2,7 +2,7 @@
 #![tactic(auto)]
 
 ghost use Rattle.std.specs.Prelude.{◌≡◌, ◌⊎◌, ◌+◌, ◌-◌, ◌≤◌, ◌<◌, length, drop};
-ghost use Rattle.plan_steps.specs.Extent.{extent_of, from15, reach_of};
+ghost use Rattle.plan_steps.specs.Extent.{extent_of, reach_of};
 
 // The sum of the stages' reaches.
 fn total(ws: &[u32], down: bool) -> u32
@@ -10,11 +10,9 @@ fn total(ws: &[u32], down: bool) -> u32
     ensures sum { result ≡ extent_of down (drop 2 ws.now) }
     ensures small { result ≤ 64 }
 {
-    let mut sum: u32 = 0;
-    let mut i: usize = 2;
-    while i < ws.len() {
+    let mut sum = 0;
+    for i in 2..ws.len() {
         sum += stage_steps::reach(ws[i] % 512, down);
-        i += 1;
     }
     sum
 }
@@ -24,17 +22,7 @@ pub fn extent(ws: &[u32], down: bool) -> u32
     ensures of_a_plan { length ws.now ≤ 32 → result ≡ extent_of down (drop 2 ws.now) }
     ensures of_more { 32 < length ws.now → result ≡ 0 }
 {
-    if 32 < ws.len() {
-        return 0;
-    }
-    total(ws, down)
-}
-
-// How far a is from 15.
-fn from_15(a: u32) -> u32
-    ensures { result ≡ from15 a }
-{
-    if a < 15 { 15 - a } else { a - 15 }
+    if ws.len() > 32 { 0 } else { total(ws, down) }
 }
 
 // How far the plan's points reach up or down: the greater of |dy| and |dy + h|, with h the sum of the stages' heights; 0 of fewer or more words than a plan
@@ -43,14 +31,11 @@ pub fn reach(ws: &[u32]) -> u32
     ensures of_a_plan { 2 ≤ length ws.now → length ws.now ≤ 32 → result ≡ reach_of ws.now }
     ensures of_others { (length ws.now < 2) ⊎ (32 < length ws.now) → result ≡ 0 }
 {
-    if ws.len() < 2 {
-        return 0;
-    }
-    if 32 < ws.len() {
+    if !(2..=32).contains(&ws.len()) {
         return 0;
     }
     let field = ws[1] / 256 % 256;
-    let first = from_15(field);
-    let last = from_15(field + total(ws, true));
-    if first < last { last } else { first }
+    field
+        .abs_diff(15)
+        .max((field + total(ws, true)).abs_diff(15))
 }

@@ -1,3 +1,2 @@
 pub mod EightBits
 pub mod Halves
-pub mod Fits

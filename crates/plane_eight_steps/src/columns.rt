@@ -24,8 +24,7 @@ fn eights(d: &mut [u8], s: &[u8], w: usize, some: bool)
     requires { 7 * w + length d.old ≤ length s.now }
     ensures { Bitted 0 (length d.old) (eight_bit some s.now w) d.old d.new }
 {
-    let mut k = 0;
-    while k < d.len() {
+    for k in 0..d.len() {
         d[k] = eight(
             s[k],
             s[w + k],
@@ -37,7 +36,6 @@ fn eights(d: &mut [u8], s: &[u8], w: usize, some: bool)
             s[7 * w + k],
             some,
         );
-        k += 1;
     }
 }
 
@@ -49,10 +47,10 @@ pub(crate) fn halves(d: &mut [u8], s: &[u8], w: usize, some: bool)
     let n = d.len();
     if n < 32 {
         eights(d, s, w, some);
-        return;
+    } else {
+        let h = (n - n / 2 + 15) / 16 * 16;
+        let m = s.len();
+        eights(&mut d[0..h], s, w, some);
+        eights(&mut d[n - h..n], &s[n - h..m], w, some);
     }
-    let h = (n - n / 2 + 15) / 16 * 16;
-    let m = s.len();
-    eights(&mut d[0..h], s, w, some);
-    eights(&mut d[n - h..n], &s[n - h..m], w, some);
 }

@@ -10,13 +10,7 @@ ghost use Rattle.plane_eight_steps.specs.Eights.{eight_fits, EightPut};
 fn eight_fits(n: usize, m: usize, w: usize) -> bool
     ensures { result ≡ eight_fits n m w }
 {
-    if w < n {
-        return false;
-    }
-    if 65535 < w {
-        return false;
-    }
-    8 * w <= m
+    n <= w && w <= 65535 && 8 * w <= m
 }
 
 // One level of the first eight rows of s, w cells a row, put into the bytes of d. False, with nothing written, where d is longer than a row, or s does not

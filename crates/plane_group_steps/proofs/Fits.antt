@@ -5,12 +5,9 @@ use mathlib.Core.List.{List}
 use Prim.Native.Nat.{ℕ, ◌*◌, ◌≤◌}
 use lib.ListN.{length}
 use borrow.Author.Tests.{le-leb}
-use Rattle.ranges.proofs.Sizing.{four, holds}
+use Rattle.ranges.proofs.Sizing.{holds}
 use Rattle.planes.specs.Bytes.{Bitted}
 use Rattle.plane_group_steps.specs.Groups.{group_bit, group_fits, RowsGrouped}
-
-pub group_says : (n m w r : ℕ) → group_fits n m w r ≡ true → (n ≤ w) × (r ≤ 8) × (w ≤ 65535) × (r * w ≤ m)
-group_says n m w r e = four n w r 8 w 65535 (r * w) m (holds e)
 
 -- rows that fit were put
 pub group_done : (some : Bool) (w r v : ℕ) (s d : List ℕ) {b : Bool} {d' : List ℕ} → length d ≤ w → r ≤ 8 → w ≤ 65535 → r * w ≤ length s

@@ -1,5 +1,5 @@
 -- Rows of cells put into a run of bytes, the first of them first.
-use mathlib.Core.Path.{◌≡◌, refl, sym, ap, ◌∙◌}
+use mathlib.Core.Path.{◌≡◌, sym, ap, ◌∙◌}
 use mathlib.Core.Logic.{⊎_elim}
 use mathlib.Core.Bool.{Bool, cond}
 use mathlib.Core.List.{List}
@@ -15,9 +15,7 @@ use Rattle.ranges.specs.Ranges.{Ranged}
 use Rattle.ranges.proofs.Ranges.{get_d_mid}
 use Rattle.planes.specs.Bits.{level_bit}
 use Rattle.planes.specs.Bytes.{Bitted}
-use Rattle.planes.proofs.Bitting.{bitted_ap}
 use Rattle.planes.proofs.WholeBytes.{up_in, up_out}
-use Rattle.plane_eight_steps.specs.Eights.{eight_bit}
 use Rattle.plane_group_steps.specs.Groups.{laid_bit, group_bit}
 
 -- the greater of two numbers of which one is 0
@@ -32,16 +30,6 @@ abbrev pub few_bit : Bool → List ℕ → ℕ → ℕ → ℕ → ℕ → ℕ �
 few_bit some s w r v j k q = cond (ltb q j) (level_bit some (get_or s (q * w + k) 0)) (bit (v * 2 ^ r % 256) q)
 
 module _ (some : Bool) (s : List ℕ) (w r v : ℕ) where
-  -- before the first row
-  pub few_none : {d d' : List ℕ} → Ranged 0 0 (length d) (λ _. v * 2 ^ r % 256) d d' → Bitted 0 (length d') (few_bit some s w r v 0) d' d'
-  few_none a =
-      record {
-        len = refl;
-        at = λ k q lo hi lq. ap (λ (n : ℕ). bit n q) (a.at k lo (omega (arith, a.len))) ∙ rw (le-ltb q 0 (omega arith));
-        below = λ k u. refl;
-        above = λ k u. refl;
-      }
-
   module _ (j : ℕ) (l : j < r) (small : r < 8) (fits : r * w ≤ length s) where
     -- the row's cells
     row : (k : ℕ) → k < w → get_or (mid_of (j * w) (j * w + w - j * w) s) k 0 ≡ get_or s (j * w + k) 0
@@ -95,6 +83,3 @@ module _ (some : Bool) (s : List ℕ) (w r v : ℕ) where
     below = λ k u. absurd (omega arith);
     above = λ k u. b.above k (omega (arith, a.len)) ∙ a.above k u;
   }
-
-  pub eight_all : {n : ℕ} {d d' : List ℕ} → r ≡ 8 → Bitted 0 n (eight_bit some s w) d d' → Bitted 0 n (group_bit some s w r v) d d'
-  eight_all e a = bitted_ap a (λ k q lo hi lq. rw (lt-ltb q r (omega arith)))

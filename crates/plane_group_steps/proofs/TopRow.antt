@@ -1,13 +1,13 @@
 -- One row of cells put into bit 7 of a run of bytes, with one value below it.
 use mathlib.Core.Path.{◌≡◌, ap, ◌∙◌}
 use mathlib.Core.Logic.{⊎_elim}
-use mathlib.Core.Bool.{Bool, true, false, cond}
+use mathlib.Core.Bool.{Bool, true, cond}
 use mathlib.Core.List.{List}
 use Prim.Native.Nat.{ℕ, zero, suc, ◌*◌, ◌<◌, ◌≤◌}
 use native.Mathlib.Omega.{arith}
 use lib.Dec.{ltb, eqb}
 use lib.ListN.{length, get_or}
-use borrow.Author.Tests.{lt-ltb, le-ltb, eq-eqb, ne_eqb, le-leb, lt-leb}
+use borrow.Author.Tests.{lt-ltb, le-ltb, eq-eqb, ne_eqb, le-leb}
 use Rattle.plane.proofs.Tests.{lt_or_le}
 use Rattle.rows.specs.Cells.{bit}
 use Rattle.rows.proofs.RowBits.{bit_cut, no_bit}
@@ -53,13 +53,7 @@ top_bits some v s {d₁ = d₁} hv a b = record {
         omega arith)
         (lt_or_le q 7)
 
--- the test on a row, where one of its halves fails, and where both hold
-pub top_short : (n m v : ℕ) → m < n → top_fits n m v ≡ false
-top_short n m v l = rw (lt-leb n m l)
-
-pub top_high : (n m v : ℕ) → n ≤ m → 1 < v → top_fits n m v ≡ false
-top_high n m v l h = rw (le-leb n m l, lt-leb v 1 h)
-
+-- the test on a row, where both of its halves hold
 pub top_fits_lem : (n m v : ℕ) → n ≤ m → v ≤ 1 → top_fits n m v ≡ true
 top_fits_lem n m v l h = rw (le-leb n m l, le-leb v 1 h)
 

@@ -20,10 +20,8 @@ fn lay(d: &mut [u8], s: &[u8], j: usize, some: bool)
     ensures { Bitted 0 (length d.old) (λ k q. laid_bit some (get_or d.old k 0) (get_or s.now k 0) j q)
         d.old d.new }
 {
-    let mut k = 0;
-    while k < d.len() {
+    for k in 0..d.len() {
         d[k] = laid(d[k], s[k], j, some);
-        k += 1;
     }
 }
 
@@ -34,10 +32,8 @@ fn few(d: &mut [u8], s: &[u8], w: usize, r: usize, outside: u8, some: bool)
     ensures { Bitted 0 (length d.old) (group_bit some s.now w r outside) d.old d.new }
 {
     ranges::fill(d, outside << r);
-    let mut j: usize = 0;
-    while j < r {
+    for j in 0..r {
         lay(d, &s[j * w..j * w + w], j, some);
-        j += 1;
     }
 }
 
@@ -48,25 +44,16 @@ fn grouped(d: &mut [u8], s: &[u8], w: usize, r: usize, outside: u8, some: bool)
 {
     if r == 8 {
         plane_eight_steps::eight_rows(d, s, w, some);
-        return;
+    } else {
+        few(d, s, w, r, outside, some);
     }
-    few(d, s, w, r, outside, some);
 }
 
 // Whether r rows of w cells, which are among m, go into n bytes.
 fn group_fits(n: usize, m: usize, w: usize, r: usize) -> bool
     ensures { result ≡ group_fits n m w r }
 {
-    if w < n {
-        return false;
-    }
-    if 8 < r {
-        return false;
-    }
-    if 65535 < w {
-        return false;
-    }
-    r * w <= m
+    n <= w && r <= 8 && w <= 65535 && r * w <= m
 }
 
 // The first r rows of s, w cells a row, put into the bytes of d, with the bits of outside above them. False, with nothing written, where d is longer than a
@@ -86,10 +73,7 @@ pub fn group(d: &mut [u8], s: &[u8], w: usize, r: usize, outside: u8, some: bool
 pub fn top(d: &mut [u8], s: &[u8], outside: u8, some: bool) -> bool
     ensures { RowTopped some outside s.now d.old result d.new }
 {
-    if s.len() < d.len() {
-        return false;
-    }
-    if 1 < outside {
+    if s.len() < d.len() || 1 < outside {
         return false;
     }
     ranges::fill(d, outside * 127);

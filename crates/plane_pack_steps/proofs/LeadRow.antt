@@ -171,14 +171,3 @@ begun_far some true {v} {W} {H} {C} {R} {f} {d} {d₁} {d₂} e k h r b = record
   kept = record { len = b.len ∙ r.len; past = λ j u. (lead_only k h b).past j u ∙ (filled_only v C R r).past j u };
 }
 begun_far some false e k h r b = absurd (subst T (sym e) tt)
-
-pub then_packed : {some : Bool} {v : ℕ} {far : Bool} {W H C R : ℕ} {f d d₁ d₂ : List ℕ} → Begun some v far W H C R f d d₁
-    → FramePacked some v far W H C R f d₁ d₂
-    → FramePacked some v far W H C R f d d₂
-then_packed g p = record { kept = record { len = p.kept.len ∙ g.kept.len; past = λ j u. p.kept.past j u ∙ g.kept.past j u }; shown = p.shown }
-
--- the row stands within the plane of one value
-pub lead_room : (far : Bool) {v W H C R : ℕ} {f d d₁ : List ℕ} → far ≡ true → Packable v far W H C R f d → 1 ≤ H → Filled v C R d d₁
-    → (2 * (C + 2) + 17 + W ≤ length d₁) × (W ≤ length f) × (v ≤ 1)
-lead_room true e k h r = let l = lead_fits k h in (omega (arith, l.0, l.2, r.len), l.1, k.around)
-lead_room false e k h r = absurd (subst T (sym e) tt)

@@ -1,4 +1,3 @@
 pub mod GroupParts
 pub mod PackRows
 pub mod LeadRow
-pub mod Sizing

@@ -1,5 +1,5 @@
 -- A frame packed group by group: after the rows below y, the plane shows the frame in them, and the value outside in all others.
-use mathlib.Core.Path.{◌≡◌, refl, sym, ap, ap₂, ◌∙◌}
+use mathlib.Core.Path.{◌≡◌, sym, ap, ap₂, ◌∙◌}
 use mathlib.Core.Logic.{⊎_elim}
 use mathlib.Core.Bool.{Bool, true, false, cond}
 use mathlib.Core.List.{List}
@@ -24,7 +24,7 @@ use Rattle.planes.proofs.WholeBytes.{one_value}
 use Rattle.planes.proofs.Views.{in_both, out_above, out_side, out_under}
 use Rattle.planes.proofs.OnGrids.{level_at, level_size}
 use Rattle.planes.proofs.Sizing.{size_small}
-use Rattle.plane_pack_steps.specs.Packing.{GroupPut, lead_of, framed, Until, Packable}
+use Rattle.plane_pack_steps.specs.Packing.{GroupPut, framed, Until, Packable}
 
 -- where the plane counts a cell of the frame
 at_place : (far : Bool) (x : ℕ) → (pos x -ℤ pos 2) +ℤ neg_ℤ (pos (place_of far)) ≡ pos x -ℤ pos (2 + place_of far)
@@ -35,9 +35,13 @@ at_row : (far : Bool) (y : ℕ) → (pos y -ℤ pos 8) +ℤ neg_ℤ (pos (place_
 at_row false y = +ℤ_assoc (pos y) (neg_ℤ (pos 8)) (pos 0)
 at_row true y = +ℤ_assoc (pos y) (neg_ℤ (pos 8)) (neg_ℤ (pos 15))
 
--- a plane of one value, as counted by the code
+-- a plane of one value
 abbrev pub Filled : ℕ → ℕ → ℕ → List ℕ → List ℕ → Type 0
-Filled v C R d d' = Ranged 0 0 (byte_rows R * (C + 2) + 2 * (C + 2) + 2) (λ _. v * 255) d d'
+Filled v C R d d' = Ranged 0 0 (plane_size C R) (λ _. v * 255) d d'
+
+-- the same, of as many bytes as the code counted
+pub filled_by : (v C R : ℕ) {n : ℕ} {d d' : List ℕ} → n ≡ plane_size C R → Ranged 0 0 n (λ _. v * 255) d d' → Filled v C R d d'
+filled_by v C R e r = record { len = r.len; at = λ k l u. r.at k l (omega arith); below = r.below; above = λ k u. r.above k (omega arith) }
 
 module _ (some : Bool) (v s W H C R : ℕ) (f : List ℕ) where
   pub until_none : {d d' : List ℕ} → v ≤ 1 → Filled v C R d d' → Until some v s W H C R 0 f d'
@@ -45,7 +49,7 @@ module _ (some : Bool) (v s W H C R : ℕ) (f : List ℕ) where
   until_none {d' = d'} hv r = record {
     at = λ x z lx lz.
         let a : z / 8 * (C + 2) ≤ (byte_rows R + 1) * (C + 2) = mul-le-mul_right (C + 2) (omega arith) in
-        let e = r.at (z / 8 * (C + 2) + x) (omega arith) (omega (arith, add-mul (byte_rows R) 1 (C + 2))) in
+        let e = r.at (z / 8 * (C + 2) + x) (omega arith) (omega (arith, add-mul (byte_rows R) 1 (C + 2), add-mul (byte_rows R) 2 (C + 2))) in
         ap (λ (n : ℕ). bit n (z % 8)) e ∙ one_value v (z % 8) hv (omega arith) ∙ ⊎_elim
         (λ (u : z < 0 + (8 + s)).
         sym (ap (λ (t : Bool). cond t (framed some v s W H f x z) v) (lt-ltb z (0 + (8 + s)) u) ∙ out_above (2 + s) (8 + s) v W H (level_bits some f) x z
@@ -184,51 +188,13 @@ group_fits_lem {v} {far} {W} {H} {C} {R} {f} k y hy =
       omega arith,
     )
 
--- bytes of a plane, counted as the code does
-pub room_for : {v : ℕ} {far : Bool} {W H C R : ℕ} {f d : List ℕ} → Packable v far W H C R f d → byte_rows R * (C + 2) + 2 * (C + 2) + 2 ≤ length d
-room_for {C = C} {R = R} k = omega (arith, add-mul (byte_rows R) 2 (C + 2), k.room)
-
 -- the rows below y of the frame f are packed: the next group's bytes begin at p, and its cells at q; d₀ is the plane before the first
 abbrev pub Filling : Bool → ℕ → Bool → ℕ → ℕ → ℕ → ℕ → List ℕ → List ℕ → List ℕ → ℕ → ℕ → ℕ → Type 0
 Filling some v far W H C R f d₀ d p q y =
     (y ≤ H + 7) × ((y + place_of far) % 8 ≡ 0) × (p ≡ ((y + place_of far) / 8 + 1) * (C + 2) + (2 + place_of far)) × (q ≡ y * W)
     × (plane_size C R ≤ length d) × Until some v (place_of far) W H C R y f d × PlaneOnly C R d₀ d
 
--- before the first group
-lead_aligned : (far : Bool) → ((lead_of far + place_of far) % 8 ≡ 0) × ((lead_of far + place_of far) / 8 ≡ 2 * lead_of far) × (place_of far ≡ 15 * lead_of far)
-lead_aligned false = (refl, refl, refl)
-lead_aligned true = (refl, refl, refl)
-
--- where the first group begins, and its cells
-pub first_small : (far : Bool) (y C W : ℕ) → y ≡ lead_of far → (y ≤ 1) × ((2 * y + 1) * (C + 2) ≤ 3 * (C + 2)) × (y * W ≤ 1 * W)
-first_small far y C W e = (small, mul-le-mul_right (C + 2) (omega (arith, small)), mul-le-mul_right W small)
-  where
-    low : (far : Bool) → lead_of far ≤ 1
-    low false = omega arith
-    low true = omega arith
-
-    small : y ≤ 1
-    small = omega (arith, low far)
-
 module _ (some : Bool) {v : ℕ} {far : Bool} {W H C R : ℕ} {f d : List ℕ} (k : Packable v far W H C R f d) where
-  pub filling_first : (y p q : ℕ) → y ≡ lead_of far → p ≡ (2 * y + 1) * (C + 2) + 15 * y + 2 → q ≡ y * W → lead_of far ≤ H
-      → Until some v (place_of far) W H C R (lead_of far) f d → Filling some v far W H C R f d d p q y
-  filling_first y p q e ep eq h u = (
-    omega arith,
-    ap (λ (n : ℕ). (n + place_of far) % 8) e ∙ (lead_aligned far).0,
-    ep ∙ place,
-    eq,
-    k.room,
-    rw e u,
-    record { len = refl; past = λ i l. refl },
-  )
-    where
-      place : (2 * y + 1) * (C + 2) + 15 * y + 2 ≡ ((y + place_of far) / 8 + 1) * (C + 2) + (2 + place_of far)
-      place =
-          let a : (y + place_of far) / 8 ≡ 2 * y = ap (λ (n : ℕ). (n + place_of far) / 8) e ∙ (lead_aligned far).1 ∙ ap (λ (n : ℕ). 2 * n) (sym e) in
-          let b = (lead_aligned far).2 in
-          omega (arith, ap (λ (n : ℕ). (n + 1) * (C + 2)) a)
-
   module _ {d₀ d₁ : List ℕ} {p q y : ℕ} (i : Filling some v far W H C R f d₀ d₁ p q y) where
     pub filling_more : {d₂ : List ℕ} → y < H → GroupPut some W (H - y) p q (v * 255) f d₁ d₂
         → Filling some v far W H C R f d₀ d₂ (p + (C + 2)) (q + 8 * W) (y + 8)
@@ -251,4 +217,4 @@ module _ (some : Bool) {v : ℕ} {far : Bool} {W H C R : ℕ} {f d : List ℕ} (
 
 -- what the fill left is a plane
 pub filled_only : (v C R : ℕ) {d d' : List ℕ} → Filled v C R d d' → PlaneOnly C R d d'
-filled_only v C R r = record { len = r.len; past = λ j u. r.above j (omega (arith, add-mul (byte_rows R) 2 (C + 2))) }
+filled_only v C R r = record { len = r.len; past = λ j u. r.above j u }

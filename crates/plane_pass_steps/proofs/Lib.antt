@@ -1,2 +1,1 @@
 pub mod ByteBits
-pub mod Rooms

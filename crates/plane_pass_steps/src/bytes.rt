@@ -8,10 +8,7 @@ ghost use Rattle.plane_pass_steps.specs.Passes.{of_three, spanned};
 pub(crate) fn both(a: u8, b: u8, erode: bool) -> u8
     ensures { (q : ℕ) → bit result q ≡ bit_pick erode (bit a q) (bit b q) }
 {
-    if erode {
-        return a & b;
-    }
-    a | b
+    if erode { a & b } else { a | b }
 }
 
 // The same of three bytes.

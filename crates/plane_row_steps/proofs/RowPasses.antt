@@ -1,12 +1,10 @@
 -- A pass that reads three columns is the pass of the mask's row, where a column is set.
 use mathlib.Core.Path.{◌≡◌, refl, sym, ap, ◌∙◌}
-use mathlib.Core.Logic.{⊎_elim}
 use mathlib.Core.Bool.{Bool, true, false, cond}
 use mathlib.Core.List.{List}
-use Prim.Native.Nat.{ℕ, ◌+◌, ◌*◌, ◌<◌, ◌≤◌}
+use Prim.Native.Nat.{ℕ, ◌+◌, ◌*◌, ◌<◌}
 use native.Mathlib.Omega.{arith}
 use lib.ListN.{length, get_or}
-use Rattle.plane.proofs.Tests.{lt_or_le}
 use Rattle.rows.specs.Cells.{bit}
 use Rattle.rows.proofs.RowBits.{no_bit}
 use Rattle.ranges.specs.Ranges.{Ranged}
@@ -32,13 +30,9 @@ abbrev next_cell : Bool → List ℕ → ℕ → ℕ → ℕ → ℕ → ℕ →
 next_cell erode s o c j k q i = lifted_bit s c (lift_of erode j) (k + (o + across_of erode i)) q
 
 -- what is read for column i, where g is the first column that is set
-pub stands : (erode : Bool) (o m b i : ℕ) {g x : ℕ} → g ≡ first_column m b → x ≡ across_of erode (cond (has_bit m (b + i)) i g)
-    → o + x ≡ o + across_of erode (stand_in m b i)
-stands erode o m b i e f = ap (λ (n : ℕ). o + n) (f ∙ ap (λ (n : ℕ). across_of erode (cond (has_bit m (b + i)) i n)) e)
-
--- a column is set where the first one is not 3
-pub some_set : {g n : ℕ} → g ≡ n → g ≤ 3 → (g ≡ 3 → ⊥) → n < 3
-some_set {g} {n} e l u = ⊎_elim (λ (h : g < 3). omega arith) (λ (h : 3 ≤ g). absurd (u (omega arith))) (lt_or_le g 3)
+pub stands : (erode : Bool) (o m b i : ℕ) {g x : ℕ} → g ≡ first_column m b → x ≡ o + across_of erode (cond (has_bit m (b + i)) i g)
+    → x ≡ o + across_of erode (stand_in m b i)
+stands erode o m b i e f = f ∙ ap (λ (n : ℕ). o + across_of erode (cond (has_bit m (b + i)) i n)) e
 
 module _ (erode : Bool) (s : List ℕ) (o m : ℕ) where
   pub first_row : {n : ℕ} {d d' : List ℕ} (x y z : ℕ) → first_column m 0 < 3 → x ≡ o + across_of erode (stand_in m 0 0)

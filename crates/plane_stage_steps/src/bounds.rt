@@ -17,10 +17,8 @@ fn trim(d: &mut [u8], r: u32, outside: u8)
     requires { (0 < r) × (r < 8) }
     ensures { Bitted 0 (length d.old) (trimmed_bit r outside d.old) d.old d.new }
 {
-    let mut k = 0;
-    while k < d.len() {
-        d[k] = trimmed(d[k], r, outside);
-        k += 1;
+    for a in d.iter_mut() {
+        *a = trimmed(*a, r, outside);
     }
 }
 
@@ -29,13 +27,10 @@ fn pads(d: &mut [u8], s: usize, n: usize, outside: u8)
     requires { (2 ≤ s) × (n * s + 2 ≤ length d.old) }
     ensures { Padded s n outside d.old d.new }
 {
-    let mut p: usize = 0;
-    let mut r: usize = 0;
-    while r < n {
-        p += s;
+    for r in 0..n {
+        let p = (r + 1) * s;
         d[p] = outside;
         d[p + 1] = outside;
-        r += 1;
     }
 }
 
@@ -48,8 +43,7 @@ pub(crate) fn bound(d: &mut [u8], s: usize, n: usize, r: u32, outside: u8)
     ranges::fill(&mut d[0..s + 2], outside);
     ranges::fill(&mut d[e + s..e + 2 * s + 2], outside);
     pads(d, s, n, outside);
-    if r == 8 {
-        return;
+    if r < 8 {
+        trim(&mut d[e + 2..e + s], r, outside);
     }
-    trim(&mut d[e + 2..e + s], r, outside);
 }

@@ -7,51 +7,23 @@ mod lines;
 ghost use Rattle.std.specs.Prelude.{◌≡◌};
 ghost use Rattle.planes.specs.Planes.{unpack_fits, Unpacked};
 
-// Whether w columns and h rows in k bytes are cut out of planes of gw columns and gh rows in n bytes, the second from byte o on, at the distances a and b.
-fn unpack_fits(
-    w: usize,
-    h: usize,
-    gw: usize,
-    gh: usize,
-    a: usize,
-    b: usize,
-    o: usize,
-    n: usize,
-    k: usize,
-) -> bool
-    ensures { result ≡ unpack_fits o w h gw gh a b n k }
+use cuts::{Part, Sides};
+
+// Whether the part in k bytes is cut out of planes in n bytes, the second from byte o on.
+fn unpack_fits(part: Part, plane: Sides, o: usize, n: usize, k: usize) -> bool
+    ensures { result ≡ unpack_fits o part.w part.h plane.columns plane.rows part.a part.b n k }
 {
-    if !cuts::sides_fit(w, h, gw, gh, a, b) {
-        return false;
-    }
-    if 65535 < o {
-        return false;
-    }
-    if n < o + (((gh + 7) / 8 + 2) * (gw + 2) + 2) {
-        return false;
-    }
-    w * h <= k
+    part.sides_fit(plane) && o <= 65535 && o + planes::size(plane) <= n && part.w * part.h <= k
 }
 
-// Cuts w columns and h rows out of the plane of gw columns and gh rows in src, and of the second from byte o on, which is the same if o is 0, into dst: cell
-// (x, y) becomes the planes' (x + a − 15, y + b − 15), and outside where they have no such cell. False, with nothing written, where sizes do not fit.
-pub fn unpack(
-    src: &[u8],
-    dst: &mut [u8],
-    w: usize,
-    h: usize,
-    gw: usize,
-    gh: usize,
-    a: usize,
-    b: usize,
-    outside: u8,
-    o: usize,
-) -> bool
-    ensures { Unpacked o outside w h gw gh a b src.now dst.old result dst.new }
+// Cuts a part out of the plane in src, and of the second from byte o on, which is the same if o is 0, into dst: cell (x, y) becomes the planes' (x + a − 15,
+// y + b − 15), and outside where they have no such cell. False, with nothing written, where sizes do not fit.
+pub fn unpack(src: &[u8], dst: &mut [u8], part: Part, plane: Sides, o: usize) -> bool
+    ensures { Unpacked o plane.outside part.w part.h plane.columns plane.rows part.a part.b src.now dst.old result dst.new }
 {
-    if !unpack_fits(w, h, gw, gh, a, b, o, src.len(), dst.len()) {
+    if !unpack_fits(part, plane, o, src.len(), dst.len()) {
         return false;
     }
-    lines::down(src, dst, w, h, gw, gh, a, b, outside, o);
+    lines::down(src, dst, part, plane, o);
     true
 }

@@ -7,12 +7,14 @@ ghost use Rattle.planes.specs.Bits.{of_levels};
 ghost use Rattle.planes.specs.Planes.{plane_size, plane_cells};
 ghost use Rattle.plane_unpack_steps.specs.Pairs.{pair_bit, Rows};
 
+use cuts::{Part, Sides};
+
 // The byte of which bit j alone is set.
 fn mask(j: u32) -> u8
     requires { j < 8 }
     ensures { result ≡ 2 ^ j }
 {
-    128 >> (7 - j)
+    1 << j
 }
 
 // Bit j of a byte, by the byte m of which it alone is set: a shift by j would take longer where many bytes are done at a time.
@@ -20,10 +22,7 @@ fn held(c: u8, j: u32, m: u8) -> u8
     requires { m ≡ 2 ^ j }
     ensures { (result ≡ bit c j) × (result < 2) }
 {
-    if c & m == m {
-        return 1;
-    }
-    0
+    if c & m == m { 1 } else { 0 }
 }
 
 // Each byte of d becomes a cell: bit j of the byte of s at its index.
@@ -31,10 +30,8 @@ fn cells(d: &mut [u8], s: &[u8], j: u32, m: u8)
     requires { (length d.old ≤ length s.now) × (m ≡ 2 ^ j) }
     ensures { Ranged 0 0 (length d.old) (λ k. bit (get_or s.now k 0) j) d.old d.new }
 {
-    let mut k = 0;
-    while k < d.len() {
+    for k in 0..d.len() {
         d[k] = held(s[k], j, m);
-        k += 1;
     }
 }
 
@@ -43,10 +40,7 @@ fn cell(one: u8, some: u8) -> u8
     requires { (one < 2) × (some < 2) }
     ensures { result ≡ of_levels one some }
 {
-    if some == 0 {
-        return 0;
-    }
-    2 - one
+    if some == 0 { 0 } else { 2 - one }
 }
 
 // Each byte of d becomes the cell whose levels are bit j of the bytes of s and t at its index.
@@ -54,10 +48,8 @@ fn pairs(d: &mut [u8], s: &[u8], t: &[u8], j: u32, m: u8)
     requires { (length d.old ≤ length s.now) × (length d.old ≤ length t.now) × (m ≡ 2 ^ j) }
     ensures { Ranged 0 0 (length d.old) (pair_bit s.now t.now j) d.old d.new }
 {
-    let mut k = 0;
-    while k < d.len() {
+    for k in 0..d.len() {
         d[k] = cell(held(s[k], j, m), held(t[k], j, m));
-        k += 1;
     }
 }
 
@@ -69,9 +61,9 @@ fn levels(d: &mut [u8], s: &[u8], t: &[u8], j: u32, two: bool)
     let m = mask(j);
     if two {
         pairs(d, s, t, j, m);
-        return;
+    } else {
+        cells(d, s, j, m);
     }
-    cells(d, s, j, m);
 }
 
 // The same in two halves, which overlap so that each is a whole number of 32 cells: no few cells are left to be done one by one.
@@ -82,11 +74,11 @@ fn halves(d: &mut [u8], s: &[u8], t: &[u8], j: u32, two: bool)
     let n = d.len();
     if n < 64 {
         levels(d, s, t, j, two);
-        return;
+    } else {
+        let h = (n - n / 2 + 31) / 32 * 32;
+        levels(&mut d[0..h], s, t, j, two);
+        levels(&mut d[n - h..n], &s[n - h..n], &t[n - h..n], j, two);
     }
-    let h = (n - n / 2 + 31) / 32 * 32;
-    levels(&mut d[0..h], s, t, j, two);
-    levels(&mut d[n - h..n], &s[n - h..n], &t[n - h..n], j, two);
 }
 
 // One row from bit j of a row of bytes of one plane, or of two.
@@ -110,55 +102,39 @@ fn line(row: &[u8], more: &[u8], d: &mut [u8], j: u32, a: usize, outside: u8, tw
 }
 
 // One row from the plane's row t − 15, or from above or below the plane's rows.
-fn across(src: &[u8], d: &mut [u8], gw: usize, gh: usize, a: usize, t: usize, outside: u8, o: usize)
-    requires { (o + plane_size gw gh ≤ length src.now) × (gw ≤ 65535) × (gh ≤ 65535) × (a ≤ 65535) × (o ≤ 65535) }
-    ensures { Ranged 0 0 (length d.old) (λ x. seen outside gw gh (plane_cells o gw gh src.now) (x + a) t) d.old
+fn across(src: &[u8], d: &mut [u8], plane: Sides, a: usize, t: usize, o: usize)
+    requires { (o + plane_size plane.columns plane.rows ≤ length src.now) × (plane.columns ≤ 65535) × (plane.rows ≤ 65535) × (a ≤ 65535) × (o ≤ 65535) }
+    ensures { Ranged 0 0 (length d.old) (λ x. seen plane.outside plane.columns plane.rows (plane_cells o plane.columns plane.rows src.now) (x + a) t) d.old
         d.new }
 {
-    if t < 15 {
-        ranges::fill(d, outside);
+    if t < 15 || plane.rows <= t - 15 {
+        ranges::fill(d, plane.outside);
         return;
     }
-    if gh <= t - 15 {
-        ranges::fill(d, outside);
-        return;
-    }
+    let w = plane.columns;
     let y = t - 15;
-    let q = (y / 8 + 1) * (gw + 2) + 2;
+    let q = (y / 8 + 1) * (w + 2) + 2;
     let r = o + q;
     line(
-        &src[q..q + gw],
-        &src[r..r + gw],
+        &src[q..q + w],
+        &src[r..r + w],
         d,
         (y % 8) as u32,
         a,
-        outside,
+        plane.outside,
         o != 0,
     );
 }
 
 // All rows, the first first.
-pub(crate) fn down(
-    src: &[u8],
-    dst: &mut [u8],
-    w: usize,
-    h: usize,
-    gw: usize,
-    gh: usize,
-    a: usize,
-    b: usize,
-    outside: u8,
-    o: usize,
-)
-    requires { (o + plane_size gw gh ≤ length src.now) × (w * h ≤ length dst.old) × (w ≤ 65535) × (h ≤ 65535) × (gw ≤ 65535) × (gh ≤ 65535) ×
-        (a ≤ 65535) × (b ≤ 65535) × (o ≤ 65535) }
-    ensures { dst.new ≡ over_front (w * h) (cut_out outside w h gw gh a b (plane_cells o gw gh src.now)) dst.old }
+pub(crate) fn down(src: &[u8], dst: &mut [u8], part: Part, plane: Sides, o: usize)
+    requires { (o + plane_size plane.columns plane.rows ≤ length src.now) × (part.w * part.h ≤ length dst.old) × (part.w ≤ 65535) × (part.h ≤ 65535) ×
+        (plane.columns ≤ 65535) × (plane.rows ≤ 65535) × (part.a ≤ 65535) × (part.b ≤ 65535) × (o ≤ 65535) }
+    ensures { dst.new ≡ over_front (part.w * part.h) (cut_out plane.outside part.w part.h plane.columns plane.rows part.a part.b
+        (plane_cells o plane.columns plane.rows src.now)) dst.old }
 {
-    let mut p: usize = 0;
-    let mut y: usize = 0;
-    while y < h {
-        across(src, &mut dst[p..p + w], gw, gh, a, y + b, outside, o);
-        p += w;
-        y += 1;
+    for y in 0..part.h {
+        let p = y * part.w;
+        across(src, &mut dst[p..p + part.w], plane, part.a, y + part.b, o);
     }
 }

@@ -1,43 +1,56 @@
-// Bit planes: definitions and laws, which sides a plane may have (sides), and the bit that a level of a cell is (level_bit). What is done with planes is in
-// plane_pack_steps, plane_stage_steps and plane_unpack_steps.
+// Bit planes: definitions and laws, how a stage and a frame's packing are told (Stage, Packing), which sides a plane may have (sides), how many bytes it takes
+// (size), and the bit that a level of a cell is (level_bit). What is done with planes is in plane_pack_steps, plane_stage_steps and plane_unpack_steps.
 #![tactic(auto)]
 
-ghost use Rattle.std.specs.Prelude.{◌≡◌, true, ◌<◌};
+ghost use Rattle.std.specs.Prelude.{◌≡◌, ◌<◌, ◌≤◌};
 ghost use Rattle.planes.specs.Bits.{level_bit};
-ghost use Rattle.planes.specs.Planes.{plane_sides};
+ghost use Rattle.planes.specs.Planes.{plane_sides, plane_size, place_of};
 
-// Whether planes of gw columns and gh rows are made, with this value outside.
-pub fn sides(gw: usize, gh: usize, outside: u8) -> bool
-    ensures { result ≡ plane_sides outside gw gh }
-{
-    if gh < 1 {
-        return false;
-    }
-    if 65535 < gw {
-        return false;
-    }
-    if 65535 < gh {
-        return false;
-    }
-    outside <= 1
+use cuts::Sides;
+
+// A stage: its mask, by erosion or by dilation.
+#[derive(Clone, Copy)]
+pub struct Stage {
+    pub mask: u16,
+    pub erode: bool,
 }
 
-// Whether a cell is not 0.
-fn not_free(c: u8) -> u8
-    ensures { (result ≡ level_bit true c) × (result < 2) }
-{
-    if c == 0 {
-        return 0;
+// How a frame is packed: its columns and rows, whether it stands at (15, 15), and whether the level is that cells are not 0.
+#[derive(Clone, Copy)]
+pub struct Packing {
+    pub w: usize,
+    pub h: usize,
+    pub far: bool,
+    pub some: bool,
+}
+
+impl Packing {
+    // Where the frame's cell (0, 0) stands in the plane: at its own, or at (15, 15).
+    pub fn place(self) -> usize
+        ensures { result ≡ place_of self.far }
+    {
+        if self.far { 15 } else { 0 }
     }
-    1
+}
+
+// Whether planes of these sides are made, with this value outside.
+pub fn sides(plane: Sides) -> bool
+    ensures { result ≡ plane_sides plane.outside plane.columns plane.rows }
+{
+    1 <= plane.rows && plane.columns <= 65535 && plane.rows <= 65535 && plane.outside <= 1
+}
+
+// The bytes that a plane of these sides takes.
+pub fn size(plane: Sides) -> usize
+    requires { (plane.columns ≤ 65535) × (plane.rows ≤ 65535) }
+    ensures { result ≡ plane_size plane.columns plane.rows }
+{
+    ((plane.rows + 7) / 8 + 2) * (plane.columns + 2) + 2
 }
 
 // A level of a cell that is 0, 1 or 2: whether it is 1, or, if some, whether it is not 0.
 pub fn level_bit(c: u8, some: bool) -> u8
     ensures { (result ≡ level_bit some c) × (result < 2) }
 {
-    if some {
-        return not_free(c);
-    }
-    c % 2
+    if some { u8::from(c != 0) } else { c % 2 }
 }

@@ -1,35 +1,20 @@
 // Ranges of bytes: a part of an image filled with one value, or with the cells of another.
 #![tactic(auto)]
 
-ghost use Rattle.std.specs.Prelude.{◌≡◌, min, length, get_or};
+ghost use Rattle.std.specs.Prelude.{min, length, get_or};
 ghost use Rattle.ranges.specs.Ranges.{Ranged};
-
-// The lesser of two lengths.
-fn lesser(a: usize, b: usize) -> usize
-    ensures { result ≡ min a b }
-{
-    if a < b { a } else { b }
-}
 
 // Each cell of d becomes value.
 pub fn fill(d: &mut [u8], value: u8)
     ensures { Ranged 0 0 (length d.old) (λ _. value) d.old d.new }
 {
-    let mut k = 0;
-    while k < d.len() {
-        d[k] = value;
-        k += 1;
-    }
+    d.fill(value);
 }
 
 // Each cell of d becomes the cell of s at its index, as far as both go.
 pub fn copy(d: &mut [u8], s: &[u8])
     ensures { Ranged 0 0 (min (length d.old) (length s.now)) (λ k. get_or s.now k 0) d.old d.new }
 {
-    let n = lesser(d.len(), s.len());
-    let mut k: usize = 0;
-    while k < n {
-        d[k] = s[k];
-        k += 1;
-    }
+    let n = d.len().min(s.len());
+    d[..n].copy_from_slice(&s[..n]);
 }

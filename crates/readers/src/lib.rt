@@ -8,47 +8,31 @@ ghost use Rattle.readers.specs.Cursor.{item_at, left_at, after};
 use words::Word;
 
 // The caller's own words, borrowed, and a position in them. Nothing is copied: a reader is the slice's place and length, and a number.
-#[derive(Drop)]
+#[derive(Clone, Copy)]
 pub struct Reader<'a> {
     pub words: &'a [u32],
     pub at: usize,
 }
 
-// What stands at a position: a word, read by its kind, or the end of the list.
-#[derive(Drop)]
-pub enum Item {
-    Found(Word),
-    End,
-}
-
-// The word at a position, read by its kind, or the end.
-pub fn item_at(words: &[u32], at: usize) -> Item
+// The word at a position, read by its kind; none at the end.
+pub fn item_at(words: &[u32], at: usize) -> Option<Word>
     ensures { result ≡ item_at words.now at }
 {
-    if at < words.len() {
-        Item::Found(words::read(words[at]))
-    } else {
-        Item::End
-    }
+    words.get(at).map(|w| words::read(*w))
 }
 
 // How many words are left from a position on; none past the end.
 pub fn left_at(words: &[u32], at: usize) -> usize
     ensures { result ≡ left_at words.now at }
 {
-    if words.len() < at {
-        0
-    } else {
-        words.len() - at
-    }
+    words.len().saturating_sub(at)
 }
 
 // The position n words on, or the end where so many are not left.
 pub fn after_at(words: &[u32], at: usize, n: usize) -> usize
     ensures { result ≡ after words.now at n }
 {
-    let left = left_at(words, at);
-    if n < left { at + n } else { words.len() }
+    at.saturating_add(n).min(words.len())
 }
 
 impl<'a> Reader<'a> {
@@ -59,8 +43,8 @@ impl<'a> Reader<'a> {
         Reader { words, at: 0 }
     }
 
-    // The word where it stands, read by its kind, or the end.
-    pub fn item(self) -> Item
+    // The word where it stands, read by its kind; none at the end.
+    pub fn item(self) -> Option<Word>
         ensures { result ≡ item_at self.entry.words.now self.entry.at }
     {
         item_at(self.words, self.at)
@@ -85,7 +69,7 @@ impl<'a> Reader<'a> {
 }
 
 // The word at a position of a plain slice, by a reader that is moved there.
-pub fn read_at(list: &[u32], at: usize) -> Item
+pub fn read_at(list: &[u32], at: usize) -> Option<Word>
     ensures { result ≡ item_at list.now at }
 {
     Reader::new(list).moved(at).item()

@@ -12,36 +12,19 @@ ghost use Rattle.word_grounds.specs.Leaves.{reaches};
 pub fn wrong_length(ws: &[u32], low: usize, high: usize) -> bool
     ensures { result ≡ not_within low high ws.now }
 {
-    if ws.len() < low {
-        return true;
-    }
-    high < ws.len()
+    !(low..=high).contains(&ws.len())
 }
 
 // Ground 2: whether some word from start on has another kind.
 pub fn wrong_kind(ws: &[u32], start: usize, kind: u32) -> bool
     ensures { result ≡ any (wrong_kind kind) (drop start ws.now) }
 {
-    let mut i = start;
-    while i < ws.len() {
-        if ws[i] / 0x1000_0000 != kind {
-            return true;
-        }
-        i += 1;
-    }
-    false
+    ws.iter().skip(start).any(|w| w / 0x1000_0000 != kind)
 }
 
 // Ground 3: whether below its kind some word from start on is limit or more, where the bits below limit are those that the kind names.
 pub fn extra_bit(ws: &[u32], start: usize, limit: u32) -> bool
     ensures { result ≡ any (reaches limit) (drop start ws.now) }
 {
-    let mut i = start;
-    while i < ws.len() {
-        if ws[i] % 0x1000_0000 >= limit {
-            return true;
-        }
-        i += 1;
-    }
-    false
+    ws.iter().skip(start).any(|w| w % 0x1000_0000 >= limit)
 }

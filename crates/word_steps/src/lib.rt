@@ -12,14 +12,12 @@ pub fn write_list(ax: u32, ay: u32, rows: [u16; 16], out: &mut [u32]) -> u32
     }
     out[0] = 0x1000_0000 + (ay % 16) * 16 + ax % 16;
     let mut n: u32 = 1;
-    let mut y: u32 = 0;
-    while y < 16 {
+    for y in 0..16u32 {
         let columns = rows[y as usize] as u32;
         if columns > 0 {
             out[n as usize] = 0x2000_0000 + y * 0x1_0000 + columns;
             n += 1;
         }
-        y += 1;
     }
     n
 }

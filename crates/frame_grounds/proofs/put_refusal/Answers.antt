@@ -1,14 +1,11 @@
--- The tests of the frame, and the one of the image more.
+-- What the frame is refused by refuses the call.
+use Rattle.std.proofs.Common.{arith}
+use Rattle.std.proofs.lemmas.Result.{err_from_is_err_and}
 use Rattle.grids.specs.Frame.{frame_tests}
 use Rattle.grids.specs.Grid.{put_tests}
-use Rattle.words.proofs.Refusals.{tried_more}
-use Rattle.frame_grounds.proofs.Accepted.{size_passes}
 use Rattle.frame_grounds.proofs.put_refusal.Goals as goal
 
-pub returns : goal.returns
+pub returns-in_err-frame_refusal : goal.returns-in_err-frame_refusal
 unfolding frame_tests put_tests
-returns c =
-    let framed = c in
-    let a = framed.args in
-    tried_more c.tried.ensures (frame_tests a.w a.h a.frame.now) _ tt framed.frame_refusal-tested.ensures
-    (λ z. c.short_image.ensures (size_passes a.w a.h a.frame.now z))
+returns-in_err-frame_refusal c =
+    let p = err_from_is_err_and c.from_residual.result c.from_residual.ensures.1 in rw (p.1, p.2) (grind arith)

@@ -1,28 +1,17 @@
-use native.Mathlib.Omega.{arith}
-use mathlib.Core.Path.{refl, sym, ◌∙◌, ap}
+-- The chain tests each stage word, as `any` of specs/ does.
+use mathlib.Core.Path.{◌∙◌}
 use mathlib.Core.Bool.{not}
+use Rattle.std.proofs.Common.{rules, tests, drop}
+use Rattle.std.proofs.lemmas.Iterator.{YieldsList-from_slice}
+use Rattle.std.proofs.lemmas.Iterator.Adapters.{YieldsList-from_skip}
+use Rattle.std.proofs.lemmas.Iterator.Search.{any_from_yields_List}
 use Rattle.words.specs.Word.{stage_mask}
 use Rattle.masks.specs.Mask.{stage}
-use Rattle.plane.proofs.Member.{any_hit, any_miss, any_end}
+use Rattle.words.proofs.Passing.{any_same}
 use Rattle.plan_grounds.proofs.some_no_stage.Goals as goal
-
-pub loop-i-init : goal.loop-i-init
-loop-i-init c = refl
-
-pub returns-then-not-is_stage : goal.returns-then-not-is_stage
-returns-then-not-is_stage c =
-    let h = c.loop-i in
-    let st = c.args in
-    sym (h.invariant ∙ any_hit st.ws.now h.i 0 (λ w. not (stage (stage_mask w))) (omega arith) (ap not (sym c.is_stage.ensures ∙ c.if-not-is_stage.true)))
-
-pub loop-i-preserved : goal.loop-i-preserved
-loop-i-preserved c =
-    let h = c.loop-i in
-    let st = c.args in
-    h.invariant ∙ any_miss st.ws.now h.i 0 (λ w. not (stage (stage_mask w))) (omega arith) (ap not (sym c.is_stage.ensures ∙ c.if-not-is_stage.false))
 
 pub returns : goal.returns
 returns c =
-    let h = c.loop-i in
-    let st = c.args in
-    sym (h.invariant ∙ any_end st.ws.now h.i (λ w. not (stage (stage_mask w))) c.loop-i-test.false)
+    any_from_yields_List (λ w. not (stage (stage_mask w))) _ _ _ c.any.ensures.ran (YieldsList-from_skip 2 (YieldsList-from_slice c.args.ws.now (cc)) (cc))
+    (λ x b q k. search (rules, tests))
+    ∙ any_same (λ w. not (stage (stage_mask w))) (drop 2 c.args.ws.now)

@@ -1,12 +1,8 @@
--- The rows below j are put in; the measure is what is left of them.
-use Prim.Native.Nat.{◌-◌, ◌≤◌}
+-- The rows below j are put in.
 use lib.ListN.{length}
 use Rattle.planes.specs.Bytes.{Bitted}
 use Rattle.plane_group_steps.proofs.Grouping.{few_bit}
 use Rattle.plane_group_steps.proofs.few.Given as goal
 
 abbrev pub invariant-loop-j : goal.invariant-loop-j
-invariant-loop-j l = (l.j ≤ l.r) × Bitted 0 (length l.initial.d) (few_bit l.some l.s l.w l.r l.outside l.j) l.initial.d l.d
-
-abbrev pub decreases-loop-j : goal.decreases-loop-j
-decreases-loop-j l = l.r - l.j
+invariant-loop-j l = Bitted 0 (length l.initial.d) (few_bit l.some l.s l.w l.r l.outside l.j) l.initial.d l.d

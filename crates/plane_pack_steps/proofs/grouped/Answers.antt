@@ -11,12 +11,12 @@ next-requires c =
 pub loop-y-preserved : goal.loop-y-preserved
 loop-y-preserved c =
     let l = c.loop-y in
-    filling_more c.args.some
+    filling_more c.args.frame.some
     c.requires.0 {p = l.p} {q = l.q} {y = l.y} l.invariant
     c.loop-y-test.true c.next.ensures
 
 pub returns : goal.returns
 returns c =
     let l = c.loop-y in
-    filling_all c.args.some c.requires.0 {p = l.p} {q = l.q} {y = l.y}
+    filling_all c.args.frame.some c.requires.0 {p = l.p} {q = l.q} {y = l.y}
     l.invariant c.loop-y-test.false

@@ -1,28 +1,14 @@
-use native.Mathlib.Omega.{arith}
-use mathlib.Core.Path.{refl, sym, ◌∙◌, ap}
-use mathlib.Core.Bool.{not}
-use borrow.Author.Tests.{eq-eqb, ne_eqb}
+-- The chain tests each word from `start` on, as `any` of specs/ does.
+use mathlib.Core.Path.{◌∙◌}
+use Rattle.std.proofs.Common.{rules, tests, drop}
+use Rattle.std.proofs.lemmas.Iterator.{YieldsList-from_slice}
+use Rattle.std.proofs.lemmas.Iterator.Adapters.{YieldsList-from_skip}
+use Rattle.std.proofs.lemmas.Iterator.Search.{any_from_yields_List}
+use Rattle.words.proofs.Passing.{any_same}
 use Rattle.words.specs.Word.{wrong_kind}
-use Rattle.plane.proofs.Member.{any_hit, any_miss, any_end}
 use Rattle.word_grounds.proofs.wrong_kind.Goals as goal
-
-pub loop-i-init : goal.loop-i-init
-loop-i-init c = refl
-
-pub returns-then-ws-i : goal.returns-then-ws-i
-returns-then-ws-i c =
-    let h = c.loop-i in
-    let st = c.args in
-    sym (h.invariant ∙ any_hit st.ws.now h.i 0 (wrong_kind st.kind) (omega arith) (ap not (ne_eqb _ _ c.if-ws-i.true)))
-
-pub loop-i-preserved : goal.loop-i-preserved
-loop-i-preserved c =
-    let h = c.loop-i in
-    let st = c.args in
-    h.invariant ∙ any_miss st.ws.now h.i 0 (wrong_kind st.kind) (omega arith) (ap not (eq-eqb _ _ c.if-ws-i.false))
 
 pub returns : goal.returns
 returns c =
-    let h = c.loop-i in
-    let st = c.args in
-    sym (h.invariant ∙ any_end st.ws.now h.i (wrong_kind st.kind) c.loop-i-test.false)
+    any_from_yields_List (wrong_kind c.args.kind) _ _ _ c.any.ensures.ran (YieldsList-from_skip c.args.start (YieldsList-from_slice c.args.ws.now (cc)) (cc)) (λ x b q k. search (rules, tests))
+    ∙ any_same (wrong_kind c.args.kind) (drop c.args.start c.args.ws.now)

@@ -6,8 +6,6 @@ use Rattle.plane_eight_steps.proofs.columns.eights.Goals as goal
 pub loop-k-preserved : goal.loop-k-preserved
 loop-k-preserved c =
     let l = c.loop-k in
-    let a = c.args in (
-      omega arith,
-      bitted_more c.eight.result l.invariant.1 (omega arith)
-          (λ q lq. eight_bits a.some a.s.now a.w l.k c.eight.result q lq c.eight.ensures),
-    )
+    let a = c.args in
+    bitted_more c.eight.result l.invariant (omega arith)
+    (λ q lq. eight_bits a.some a.s.now a.w l.k c.eight.result q lq c.eight.ensures)

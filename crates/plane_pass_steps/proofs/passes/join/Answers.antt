@@ -14,14 +14,13 @@ loop-k-preserved c =
     let high = c.three-high in
     let l = c.loop-k in
     let a = c.args in
-    let s = a.s.now in (
-      omega arith,
-      bitted_more c.both.result l.invariant.1 (omega arith)
-          (λ q lq. c.both.ensures q
-          ∙ ap (λ (n : ℕ). bit_pick a.erode (bit n q) (bit c.raised.result q)) (l.invariant.1.above l.k (omega arith))
-          ∙ ap (λ (n : ℕ). bit_pick a.erode (bit (get_or a.d.now l.k 0) q) n)
-          (c.raised.ensures q lq
-          ∙ spanned_three a.erode high.result low.result (get_or s (l.k + a.x + a.c) 0) (get_or s (l.k + a.y + a.c) 0)
-          (get_or s (l.k + a.z + a.c) 0) (get_or s (l.k + a.x) 0) (get_or s (l.k + a.y) 0) (get_or s (l.k + a.z) 0) a.t q high.ensures
-          low.ensures)),
-    )
+    let r = a.read in
+    let s = a.s.now in
+    bitted_more c.both.result l.invariant (omega arith)
+    (λ q lq. c.both.ensures q
+    ∙ ap (λ (n : ℕ). bit_pick a.erode (bit n q) (bit c.raised.result q)) (l.invariant.above l.k (omega arith))
+    ∙ ap (λ (n : ℕ). bit_pick a.erode (bit (get_or a.d.now l.k 0) q) n)
+    (c.raised.ensures q lq
+    ∙ spanned_three a.erode high.result low.result (get_or s (l.k + r.x + a.c) 0) (get_or s (l.k + r.y + a.c) 0)
+    (get_or s (l.k + r.z + a.c) 0) (get_or s (l.k + r.x) 0) (get_or s (l.k + r.y) 0) (get_or s (l.k + r.z) 0) a.t q high.ensures
+    low.ensures))

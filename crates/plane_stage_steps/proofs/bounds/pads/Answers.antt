@@ -1,4 +1,4 @@
-use mathlib.Core.Path.{◌≡◌}
+use mathlib.Core.Path.{refl}
 use Prim.Native.Nat.{◌+◌, ◌*◌}
 use native.Mathlib.Nat.{add-mul}
 use Rattle.ranges.proofs.FlatRows.{rows_apart}
@@ -10,6 +10,5 @@ pub loop-r-preserved : goal.loop-r-preserved
 loop-r-preserved c =
     let l = c.loop-r in
     let a = c.args in
-    let e : l.p + a.s ≡ (l.r + 1) * a.s = omega (arith, add-mul l.r 1 a.s) in
     let b = rows_apart a.s l.r a.n (omega arith) in
-    (omega arith, e, padded_more (l.p + a.s) e (omega arith) l.invariant.2 (omega arith))
+    padded_more ((l.r + 1) * a.s) refl (omega arith) l.invariant (omega (arith, add-mul l.r 1 a.s))

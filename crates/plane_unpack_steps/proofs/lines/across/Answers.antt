@@ -12,33 +12,30 @@ use Rattle.plane_unpack_steps.proofs.HeldRows.{row_fits, held_pair}
 use Rattle.plane_unpack_steps.specs.Pairs.{pair_bit}
 use native.Mathlib.Omega.{arith}
 use Rattle.plane_unpack_steps.proofs.lines.across.Goals as goal
+use Rattle.plane_unpack_steps.proofs.lines.across.Goals.{then-t-lt15-via-then-t-lt15, then-t-lt15-via-else-t-lt15+then-plane-t}
 
 pub returns-then-t-lt15 : goal.returns-then-t-lt15
 returns-then-t-lt15 c =
     let a = c.args in
-    ranged_ap c.fill.ensures
-    (λ k lo hi. sym
-    (seen_above a.outside a.gw a.gh (plane_cells a.o a.gw a.gh a.src.now) (k + a.a) a.t
-    c.if-t-lt15.true))
-
-pub returns-then-gh-t : goal.returns-then-gh-t
-returns-then-gh-t c =
-    let a = c.args in
-    ranged_ap c.fill-then-gh-t.ensures
-    (λ k lo hi. sym
-    (seen_under a.outside a.gw a.gh (plane_cells a.o a.gw a.gh a.src.now) (k + a.a) a.t (omega arith)
-    c.if-gh-t.true))
+    let v = a.plane in
+    let p = plane_cells a.o v.columns v.rows a.src.now in
+    ranged_ap c.fill.ensures (λ k lo hi. sym (elim c.then-t-lt15.branch [
+      | then-t-lt15-via-then-t-lt15 w ↦ seen_above v.outside v.columns v.rows p (k + a.a) a.t (omega arith)
+      | then-t-lt15-via-else-t-lt15+then-plane-t w ↦ seen_under v.outside v.columns v.rows p (k + a.a) a.t (omega arith) (omega arith)
+    ]))
 
 pub returns : goal.returns
 returns c =
     let a = c.args in
+    let v = a.plane in
     let y = a.t - 15 in
-    let q = (y / 8 + 1) * (a.gw + 2) + 2 in
-    let row = mid_of q (q + a.gw - q) a.src.now in
-    let more = mid_of (a.o + q) (a.o + q + a.gw - (a.o + q)) a.src.now in
-    let n : length row ≡ a.gw = mid_len q (q + a.gw) a.src.now (omega (arith, row_fits a.gw a.gh y (omega arith))) ∙ omega arith in
+    let C = v.columns in
+    let q = (y / 8 + 1) * (C + 2) + 2 in
+    let row = mid_of q (q + C - q) a.src.now in
+    let more = mid_of (a.o + q) (a.o + q + C - (a.o + q)) a.src.now in
+    let n : length row ≡ C = mid_len q (q + C) a.src.now (omega (arith, row_fits C v.rows y (omega arith))) ∙ omega arith in
     ranged_ap c.line.ensures (λ k lo hi.
-    ap (λ (m : ℕ). shifted a.outside m (pair_bit row more (y % 8)) (k + a.a)) n
-    ∙ seen_line a.outside a.gw a.gh (plane_cells a.o a.gw a.gh a.src.now) (k + a.a) a.t (pair_bit row more (y % 8))
-    (omega (arith, held_size a.o a.gw a.gh a.src.now)) (omega arith) (omega arith)
-    (λ i l. held_pair a.o a.gw a.gh a.src.now q y i refl l (omega arith)))
+    ap (λ (m : ℕ). shifted v.outside m (pair_bit row more (y % 8)) (k + a.a)) n
+    ∙ seen_line v.outside C v.rows (plane_cells a.o C v.rows a.src.now) (k + a.a) a.t (pair_bit row more (y % 8))
+    (omega (arith, held_size a.o C v.rows a.src.now)) (omega arith) (omega arith)
+    (λ i l. held_pair a.o C v.rows a.src.now q y i refl l (omega arith)))

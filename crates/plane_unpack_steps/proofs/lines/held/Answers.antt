@@ -8,6 +8,6 @@ pub returns-then-c-m : goal.returns-then-c-m
 returns-then-c-m c =
     (sym (held_so c.args.c c.args.j c.requires c.if-c-m.true), omega arith)
 
-pub returns : goal.returns
-returns c =
+pub returns-else-c-m : goal.returns-else-c-m
+returns-else-c-m c =
     (sym (held_not c.args.c c.args.j c.requires c.if-c-m.false), omega arith)

@@ -1,29 +1,16 @@
-use native.Mathlib.Omega.{arith}
-use mathlib.Core.Path.{refl, sym, ◌∙◌}
-use lib.ListN.{get_or}
-use borrow.Author.Tests.{eq-eqb, ne_eqb}
+-- The chain tests each row, as `any` of specs/ does. A row has no column where its lowest 16 bits make 0.
+use mathlib.Core.Path.{◌∙◌}
+use Rattle.std.proofs.Common.{rules, tests, drop}
+use Rattle.std.proofs.lemmas.Iterator.{YieldsList-from_slice}
+use Rattle.std.proofs.lemmas.Iterator.Adapters.{YieldsList-from_skip}
+use Rattle.std.proofs.lemmas.Iterator.Search.{any_from_yields_List}
 use Rattle.plane.proofs.Bits.{no_bits}
+use Rattle.words.proofs.Passing.{any_same}
 use Rattle.shapes.specs.Shape.{empty_row}
-use Rattle.plane.proofs.Member.{any_hit, any_miss, any_end}
 use Rattle.shape_grounds.proofs.shape.empty_row.Goals as goal
-
-pub loop-i-init : goal.loop-i-init
-loop-i-init c = refl
-
-pub returns-then-ws-i-eq0 : goal.returns-then-ws-i-eq0
-returns-then-ws-i-eq0 c =
-    let h = c.loop-i in
-    let st = c.args in
-    sym (h.invariant ∙ any_hit st.ws.now h.i 0 empty_row (omega arith) (no_bits 16 (get_or st.ws.now h.i 0) ∙ eq-eqb _ _ c.if-ws-i-eq0.true))
-
-pub loop-i-preserved : goal.loop-i-preserved
-loop-i-preserved c =
-    let h = c.loop-i in
-    let st = c.args in
-    h.invariant ∙ any_miss st.ws.now h.i 0 empty_row (omega arith) (no_bits 16 (get_or st.ws.now h.i 0) ∙ ne_eqb _ _ c.if-ws-i-eq0.false)
 
 pub returns : goal.returns
 returns c =
-    let h = c.loop-i in
-    let st = c.args in
-    sym (h.invariant ∙ any_end st.ws.now h.i empty_row c.loop-i-test.false)
+    any_from_yields_List empty_row _ _ _ c.any.ensures.ran (YieldsList-from_skip 1 (YieldsList-from_slice c.args.ws.now (cc)) (cc))
+    (λ x b q k. let e = no_bits 16 x.now in search (rules, tests, e))
+    ∙ any_same empty_row (drop 1 c.args.ws.now)
