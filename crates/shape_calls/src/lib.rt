@@ -18,12 +18,11 @@ pub fn read_shape(ws: &[u32]) -> Shape
 {
     let anchor = list_steps::read_anchor(ws);
     let rows = list_steps::read_rows(ws);
-    let cells = Window {
+    Shape::from_window(Window {
         ax: anchor.x,
         ay: anchor.y,
-        rows: rows,
-    };
-    Shape::from_window(cells)
+        rows,
+    })
 }
 
 // The shape of the points of an accepted plan.
@@ -37,7 +36,7 @@ fn read_plan(ws: &[u32]) -> Shape
         fits: true,
         x: place.x,
         y: place.y,
-        rows: rows,
+        rows,
     }
 }
 
@@ -47,66 +46,43 @@ fn write_shape(s: Shape, out: &mut [u32]) -> Answer
     ensures { ListAnswered (writing_tests s out.old) (points_of s) out.old result out.new }
 {
     if !s.fits {
-        return Answer::Refused(Ground::OutOfRange);
+        return Err(Ground::OutOfRange);
     }
     let cells = s.window();
-    let rows = cells.rows;
-    let n = word_steps::write_list(cells.ax, cells.ay, rows, out);
-    if n == 0 {
-        return Answer::Refused(Ground::OutputLength);
+    match word_steps::write_list(cells.ax, cells.ay, cells.rows, out) {
+        0 => Err(Ground::OutputLength),
+        n => Ok(n),
     }
-    Answer::Done(n)
 }
 
 // Moving: the list of the shape with dx and dy added to x and y of each point.
 pub fn move_shape(ws: &[u32], dx: i32, dy: i32, out: &mut [u32]) -> Answer
     ensures { Moved ws.now (dx, dy) out.old result out.new }
 {
-    let tested = shape_grounds::shape_refusal(ws);
-    if let Answer::Refused(ground) = tested {
-        return Answer::Refused(ground);
-    }
-    let s = read_shape(ws);
-    let new = s.moved(dx, dy);
-    write_shape(new, out)
+    shape_grounds::shape_refusal(ws)?;
+    write_shape(read_shape(ws).moved(dx, dy), out)
 }
 
 // Joining: the list of the points of both shapes.
 pub fn join_shapes(ws: &[u32], vs: &[u32], out: &mut [u32]) -> Answer
     ensures { Joined ws.now vs.now out.old result out.new }
 {
-    let tested = shape_grounds::shapes_refusal(ws, vs);
-    if let Answer::Refused(ground) = tested {
-        return Answer::Refused(ground);
-    }
-    let s = read_shape(ws);
-    let t = read_shape(vs);
-    let new = s.joined(t);
-    write_shape(new, out)
+    shape_grounds::shapes_refusal(ws, vs)?;
+    write_shape(read_shape(ws).joined(read_shape(vs)), out)
 }
 
 // Summing: the list of the sums of a point of each.
 pub fn sum_shapes(ws: &[u32], vs: &[u32], out: &mut [u32]) -> Answer
     ensures { Summed ws.now vs.now out.old result out.new }
 {
-    let tested = shape_grounds::shapes_refusal(ws, vs);
-    if let Answer::Refused(ground) = tested {
-        return Answer::Refused(ground);
-    }
-    let s = read_shape(ws);
-    let t = read_shape(vs);
-    let new = s.summed(t);
-    write_shape(new, out)
+    shape_grounds::shapes_refusal(ws, vs)?;
+    write_shape(read_shape(ws).summed(read_shape(vs)), out)
 }
 
 // Turning a plan back: the list of its points.
 pub fn shape_of_plan(ws: &[u32], out: &mut [u32]) -> Answer
     ensures { TurnedBack ws.now out.old result out.new }
 {
-    let tested = plan_grounds::plan_refusal(ws);
-    if let Answer::Refused(ground) = tested {
-        return Answer::Refused(ground);
-    }
-    let s = read_plan(ws);
-    write_shape(s, out)
+    plan_grounds::plan_refusal(ws)?;
+    write_shape(read_plan(ws), out)
 }
