@@ -9,9 +9,8 @@ use lib.ListN.{length, get_or, take, length-take}
 use lib.Seq.{get_or-take}
 use Rattle.rows.specs.Cells.{Cells, Sum, At, AtMask, chosen}
 use Rattle.completions.specs.declared.Here.{Here}
-use Rattle.completions.specs.declared.Child.{Child}
 use Rattle.completions.specs.declared.Branch.{Branch}
-use Rattle.completions.specs.Completing.{Among, None, NoneThrough, Spent, Replaces, number_in, aim_of, partial_sum, Ready, Stepped, Allowed}
+use Rattle.completions.specs.Completing.{Among, None, NoneThrough, Spent, Replaces, number_in, aim_of, partial_sum, Ready, Below, Passed, Allowed}
 use Rattle.completions.specs.Completing.{NoneHere, NoneBefore, NoSum}
 use Rattle.completions.specs.Pools.{Parts}
 use Rattle.completions.proofs.Loops.{among_more}
@@ -121,24 +120,23 @@ module _ (nums : List ℕ) (here : Here) (list : List ℕ) (r k : ℕ) (r-in : 0
       replaced_gone permitted (aim_of here) Z list (length list) k (number_in nums) (At here.rest) here.need s.state r m p q l t
       (a (get_or list p 0) (record { at = p; before = l; is = refl })) (f 0 c.0 c.1))
 
-  module _ (c : Child) (st : Stepped nums here m c) where
-    -- it is passed over
-    pub stage_passed : c.ok ≡ false → here.len < 32 → NoneBefore nums here list r k
-    stage_passed e l = none_of (λ permitted s a t. passed_over permitted (aim_of here) Z list r k m (st.no e l permitted s))
+  -- it is passed over
+  pub stage_passed : Passed nums here m → here.len < 32 → NoneBefore nums here list r k
+  stage_passed st l = none_of (λ permitted s a t. passed_over permitted (aim_of here) Z list r k m (st.no l permitted s))
 
-    -- nothing completes the sum below it
-    pub stage_none : c.ok ≡ true → 0 < k → NoneHere nums c.here (take r list) (k - 1) → NoneBefore nums here list r k
-    stage_none e p h = none_of (λ permitted s a t. none_below permitted (aim_of here) Z list r k m p (below permitted s a))
-      where
-        part : (permitted : ℕ → Bool) → Allowed permitted list → Allowed permitted (take r list)
-        part permitted a q b = a q (among_more list r (length list) q r-to
-            (among_more list _ r q (omega (arith, length-take r list)) (of_part list r (length (take r list)) q (omega (arith, length-take r list)) b)))
+  -- nothing completes the sum below it
+  pub stage_none : (c : Here) → Below nums here m c → 0 < k → NoneHere nums c (take r list) (k - 1) → NoneBefore nums here list r k
+  stage_none c st p h = none_of (λ permitted s a t. none_below permitted (aim_of here) Z list r k m p (below permitted s a))
+    where
+      part : (permitted : ℕ → Bool) → Allowed permitted list → Allowed permitted (take r list)
+      part permitted a q b = a q (among_more list r (length list) q r-to
+          (among_more list _ r q (omega (arith, length-take r list)) (of_part list r (length (take r list)) q (omega (arith, length-take r list)) b)))
 
-        below : (permitted : ℕ → Bool) → Ready permitted nums here → Allowed permitted list → None permitted (aim_of here) (Sum Z (AtMask m)) list r (k - 1)
-        below permitted s a = record {
-          no = λ L f b q. (h.no permitted (st.below.ready e permitted s (permitted_m permitted a)) (part permitted a)).no L
-              (below_fills nums here m c st.below e permitted L f) (λ v g. to_part list r v r-to (b v g)) q;
-        }
+      below : (permitted : ℕ → Bool) → Ready permitted nums here → Allowed permitted list → None permitted (aim_of here) (Sum Z (AtMask m)) list r (k - 1)
+      below permitted s a = record {
+        no = λ L f b q. (h.no permitted (st.ready permitted s (permitted_m permitted a)) (part permitted a)).no L
+            (below_fills nums here m c st permitted L f) (λ v g. to_part list r v r-to (b v g)) q;
+      }
 
 -- ---- from the start
 
