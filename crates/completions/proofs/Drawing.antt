@@ -1,5 +1,5 @@
 -- Lists drawn from others, one mask a turn: those that fit, and then those without a number before those with it.
-use mathlib.Core.Path.{◌≡◌, refl, sym, ap, subst, ◌∙◌}
+use mathlib.Core.Path.{◌≡◌, sym, ap, subst, ◌∙◌}
 use mathlib.Core.Logic.{◌⊎◌, inl, inr, ⊎_elim}
 use mathlib.Core.List.{List}
 use Prim.Native.Nat.{ℕ, ◌+◌, ◌-◌, ◌≤◌, ◌<◌}
@@ -189,16 +189,18 @@ pub divided_by : (nums need cand list some list' : List ℕ) (n i p : ℕ) → i
 divided_by nums need cand list some list' n i p l room z wide few split =
     let f = fitting_part nums need cand some n wide few in
     let under = f.room in
-    let e : length (take n some) ≡ n = omega (arith, length-take n some) in
-    (l, λ long. let s = subst (λ (u : ℕ). Split nums (take n some) u i list' p) e (split long) in record {
-      room = room;
-      needed = z;
-      all = λ m b a g. s.all m b (f.all m b a g);
-      only = λ m a. f.only m (s.only m a);
-      fit = λ m a. f.fit m (s.only m a);
-      without = s.without;
-      having = s.having;
-      order = s.order;
-      few = f.few;
-      long = s.long;
-    })
+    let e : length (take n some) ≡ n = omega (arith, length-take n some) in (
+      l,
+      λ long. let s = subst (λ (u : ℕ). Split nums (take n some) u i list' p) e (split long) in record {
+        room = room;
+        needed = z;
+        all = λ m b a g. s.all m b (f.all m b a g);
+        only = λ m a. f.only m (s.only m a);
+        fit = λ m a. f.fit m (s.only m a);
+        without = s.without;
+        having = s.having;
+        order = s.order;
+        few = f.few;
+        long = s.long;
+      },
+    )
