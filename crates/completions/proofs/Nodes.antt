@@ -2,7 +2,7 @@
 use mathlib.Core.Path.{◌≡◌, refl, sym, subst, ◌∙◌}
 use mathlib.Core.Bool.{Bool}
 use mathlib.Core.List.{List}
-use Prim.Native.Nat.{ℕ, zero, suc, ◌-◌, ◌*◌, ◌≤◌, ◌<◌}
+use Prim.Native.Nat.{ℕ, zero, suc, ◌+◌, ◌-◌, ◌*◌, ◌≤◌, ◌<◌}
 use native.Mathlib.Omega.{arith}
 use lib.Dec.{T}
 use lib.ListN.{length, get_or, take, length-take}
@@ -55,14 +55,14 @@ module _ (nums : List ℕ) (here : Here) (cand : List ℕ) (k : ℕ) where
         (spent_none permitted (aim_of here) Y xs (length xs) k);
   }
 
-  pub turned_more : (xs : List ℕ) (r : ℕ) → 0 < r → r ≤ length xs → Turned xs r → NoneBefore nums here xs r k → Turned xs (r - 1)
-  turned_more xs r p l t h = record {
+  pub turned_more : (xs : List ℕ) (j : ℕ) → j < length xs → Turned xs (j + 1) → NoneBefore nums here xs (j + 1) k → Turned xs j
+  turned_more xs j l t h = record {
     spent = λ permitted s a.
-        let e : suc (r - 1) ≡ r = omega arith in
+        let e : suc j ≡ j + 1 = omega arith in
         let was = t.spent permitted s a in
-        spent_more permitted (aim_of here) Y xs (length xs) k (r - 1) (omega arith)
-        (subst (λ (j : ℕ). Spent permitted (aim_of here) Y xs (length xs) j k) (sym e) was)
-        (subst (λ (j : ℕ). NoneThrough permitted (aim_of here) Y xs j k (get_or xs (r - 1) 0)) (sym e) (h.no permitted s a was (r - 1) e));
+        spent_more permitted (aim_of here) Y xs (length xs) k j l
+        (subst (λ (i : ℕ). Spent permitted (aim_of here) Y xs (length xs) i k) (sym e) was)
+        (subst (λ (i : ℕ). NoneThrough permitted (aim_of here) Y xs i k (get_or xs j 0)) (sym e) (h.no permitted s a was j e));
   }
 
   -- the loop's end: a number is needed that none of those left has
@@ -91,34 +91,40 @@ module _ (nums : List ℕ) (here : Here) (cand : List ℕ) (k : ℕ) where
 
 -- ---- a stage
 
-module _ (nums : List ℕ) (here : Here) (list : List ℕ) (r k : ℕ) (r-in : 0 < r) (r-to : r ≤ length list) where
+module _ (nums : List ℕ) (here : Here) (list : List ℕ) (j k : ℕ) (l : j < length list) where
   abbrev Z : Cells
   Z = partial_sum here
 
   abbrev m : ℕ
-  m = get_or list (r - 1) 0
+  m = get_or list j 0
 
-  before_is : (j : ℕ) → suc j ≡ r → j ≡ r - 1
-  before_is j e = omega arith
+  abbrev r : ℕ
+  r = j + 1
+
+  r-to : r ≤ length list
+  r-to = omega arith
+
+  before_is : (i : ℕ) → suc i ≡ r → i ≡ j
+  before_is i e = omega arith
 
   permitted_m : (permitted : ℕ → Bool) → Allowed permitted list → T (permitted m)
-  permitted_m permitted a = a m (record { at = r - 1; before = omega arith; is = refl })
+  permitted_m permitted a = a m (record { at = j; before = l; is = refl })
 
-  -- what is shown of the mask before r
+  -- what is shown of the mask at j
   none_of : ((permitted : ℕ → Bool) → Ready permitted nums here → Allowed permitted list → Spent permitted (aim_of here) Z list (length list) r k
       → NoneThrough permitted (aim_of here) Z list r k m) → NoneBefore nums here list r k
   none_of f = record {
-    no = λ permitted s a t j e. subst (λ (i : ℕ). NoneThrough permitted (aim_of here) Z list r k (get_or list i 0)) (sym (before_is j e))
+    no = λ permitted s a t i e. subst (λ (i : ℕ). NoneThrough permitted (aim_of here) Z list r k (get_or list i 0)) (sym (before_is i e))
         (f permitted s a t);
   }
 
   -- rule S: a mask that was tried replaces it
-  pub stage_replaced : (p : ℕ) → p < length list → r ≤ p → ((i j : ℕ) → AtMask m i j → Replaces (At here.rest) m (get_or list p 0))
+  pub stage_replaced : (p : ℕ) → p < length list → r ≤ p → ((x y : ℕ) → AtMask m x y → Replaces (At here.rest) m (get_or list p 0))
       → NoneBefore nums here list r k
-  stage_replaced p l q f = none_of (λ permitted s a t.
+  stage_replaced p b q f = none_of (λ permitted s a t.
       let c = (s.known.spans m (permitted_m permitted a)).left in
-      replaced_gone permitted (aim_of here) Z list (length list) k (number_in nums) (At here.rest) here.need s.state r m p q l t
-      (a (get_or list p 0) (record { at = p; before = l; is = refl })) (f 0 c.0 c.1))
+      replaced_gone permitted (aim_of here) Z list (length list) k (number_in nums) (At here.rest) here.need s.state r m p q b t
+      (a (get_or list p 0) (record { at = p; before = b; is = refl })) (f 0 c.0 c.1))
 
   -- it is passed over
   pub stage_passed : Passed nums here m → here.len < 32 → NoneBefore nums here list r k
