@@ -86,9 +86,5 @@ pub fn opened(here: Here, nums: &[u8; 9216], cand: &[u16], m: u16, k: usize) -> 
         return None;
     }
     let below = path_steps::step(here, nums, m)?;
-    if node(below, nums, cand, k) {
-        Some(below)
-    } else {
-        None
-    }
+    node(below, nums, cand, k).then_some(below)
 }
