@@ -11,7 +11,7 @@ use lib.Bits.{bit_or}
 use lib.ListN.{get_or}
 use Rattle.plane.proofs.Tests.{lt_or_le}
 use Rattle.rows.specs.Cells.{Cells, At, bit}
-use Rattle.extents.specs.Extents.{NoCell, SomeCell, Least, Greatest, FirstOf, LastOf, Columns, row, column}
+use Rattle.extents.specs.Extents.{NoCell, Greatest, FirstOf, LastOf, Columns, row, column}
 use Rattle.rows.proofs.RowBits.{no_bit}
 use Rattle.rows.proofs.Shifts.{or_on, on_or_l, on_or_r}
 use Rattle.rows.proofs.Sums.{Rows16, in_y, row_cell}
@@ -102,7 +102,3 @@ columns_of a = record {
 -- a column whose bit is not set has no cell
 pub column_clear : (a : List ℕ) (r : ℕ) → Rows16 a → Columns a 16 r → (n : ℕ) → (bit r n ≡ 1 → ⊥) → Clear column (At a) n
 column_clear a r w p n f = record { clear = λ x y h k. f (subst (λ (q : ℕ). bit r q ≡ 1) k (p.from x y (in_y a w x y h) h)) }
-
--- a least cell is a cell
-pub least_some : {X : Cells} {number : ℕ → ℕ → ℕ} {n : ℕ} → Least number X n → SomeCell X
-least_some l = record { x = l.x; y = l.y; cell = l.cell }
