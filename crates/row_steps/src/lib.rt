@@ -12,14 +12,12 @@ fn under(z: [u16; 16], t: [u16; 16], i: u32, j: usize) -> [u16; 16]
     ensures { Under z t i j result }
 {
     let mut r = z;
-    let mut y = 0;
-    while y < 16 {
-        if y + j < 16 {
-            r[y] = r[y] & (t[y + j] >> i);
+    for y in 0..16 {
+        r[y] = if y + j < 16 {
+            r[y] & (t[y + j] >> i)
         } else {
-            r[y] = 0;
-        }
-        y += 1;
+            0
+        };
     }
     r
 }
@@ -29,14 +27,7 @@ pub fn same(a: [u16; 16], b: [u16; 16]) -> bool
     ensures yes { result ≡ true → Same (At a) (At b) }
     ensures no { result ≡ false → Same (At a) (At b) → ⊥ }
 {
-    let mut i = 0;
-    while i < 16 {
-        if a[i] != b[i] {
-            return false;
-        }
-        i += 1;
-    }
-    true
+    a == b
 }
 
 // The rows of a 3×3 mask.
@@ -54,10 +45,9 @@ pub fn mask_rows(m: u16) -> [u16; 16]
 pub fn lowered(a: [u16; 16], i: u32, j: usize) -> [u16; 16]
     ensures { Same (At result) (Lowered (At a) i j) }
 {
-    if i < 16 {
-        if j < 16 {
-            return under([65535u16; 16], a, i, j);
-        }
+    if i < 16 && j < 16 {
+        under([65535u16; 16], a, i, j)
+    } else {
+        [0u16; 16]
     }
-    [0u16; 16]
 }

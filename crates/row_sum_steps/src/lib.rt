@@ -1,19 +1,11 @@
 // Rows of cells, [u16; 16], put onto one another: sum_of is ⊕ cut to the window; joined has the cells of both, and raised moves rows by a distance.
-// What rows stand for, and what each answers: specs/ of the crate rows. Rows are compared, and moved back, by the crate row_steps.
+// What rows stand for, and what each answers: specs/ of the crate rows. An array that is lent takes a call's result through `next`: the checker does not
+// cover `r = onto(r, ..)`. Rows are compared, and moved back, by the crate row_steps.
 #![tactic(auto)]
 
-ghost use Rattle.std.specs.Prelude.{◌≡◌, true, false, ◌<◌, ◌%◌};
-ghost use Rattle.rows.specs.Cells.{Same, At, bit};
+ghost use Rattle.std.specs.Prelude.{◌<◌};
+ghost use Rattle.rows.specs.Cells.{Same, At};
 ghost use Rattle.rows.specs.Leaves.{Onto, SumOf, RowSum, Either, Raised};
-
-// Whether bit i of a is set.
-fn has(a: u16, i: u32) -> bool
-    requires { i < 16 }
-    ensures yes { result ≡ true → bit a i ≡ 1 }
-    ensures no { result ≡ false → bit a i ≡ 1 → ⊥ }
-{
-    (a >> i) % 2 == 1
-}
 
 // z with a, moved by (i, j), put onto it, cut to the window.
 fn onto(z: [u16; 16], a: [u16; 16], i: u32, j: usize) -> [u16; 16]
@@ -21,10 +13,8 @@ fn onto(z: [u16; 16], a: [u16; 16], i: u32, j: usize) -> [u16; 16]
     ensures { Onto z a i j result }
 {
     let mut r = z;
-    let mut y = j;
-    while y < 16 {
-        r[y] = r[y] | (a[y - j] << i);
-        y += 1;
+    for y in j..16 {
+        r[y] |= a[y - j] << i;
     }
     r
 }
@@ -35,16 +25,14 @@ fn row_sum(z: [u16; 16], a: [u16; 16], b: u16, j: usize) -> [u16; 16]
     ensures { RowSum z a b j 16 result }
 {
     let mut r = z;
-    let mut i: u32 = 0;
-    while i < 16 {
+    for i in 0..16 {
         if b >> i == 0 {
             return r;
         }
-        if has(b, i) {
+        if rows::has(b, i) {
             let next = onto(r, a, i, j);
             r = next;
         }
-        i += 1;
     }
     r
 }
@@ -54,14 +42,11 @@ pub fn sum_of(a: [u16; 16], b: [u16; 16]) -> [u16; 16]
     ensures { SumOf a b result }
 {
     let mut r = [0u16; 16];
-    let mut j = 0;
-    while j < 16 {
-        let row = b[j];
-        if row != 0 {
-            let next = row_sum(r, a, row, j);
+    for (j, row) in b.iter().enumerate() {
+        if *row != 0 {
+            let next = row_sum(r, a, *row, j);
             r = next;
         }
-        j += 1;
     }
     r
 }
@@ -77,10 +62,9 @@ pub fn joined(a: [u16; 16], b: [u16; 16]) -> [u16; 16]
 pub fn raised(a: [u16; 16], i: u32, j: usize) -> [u16; 16]
     ensures { Raised (At a) i j (At result) }
 {
-    if i < 16 {
-        if j < 16 {
-            return onto([0u16; 16], a, i, j);
-        }
+    if i < 16 && j < 16 {
+        onto([0u16; 16], a, i, j)
+    } else {
+        [0u16; 16]
     }
-    [0u16; 16]
 }

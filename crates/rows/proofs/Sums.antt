@@ -8,6 +8,7 @@ use native.Mathlib.Nat.{eq-or-lt_of_le, pow-suc, div-lt_iff_lt-mul}
 use native.Mathlib.Numerals.{add-one}
 use lib.ListN.{length, get_or, replicate, get_or-eq_default}
 use lib.Pow.{pow_pos, ones_split, high, ones_lt}
+use Rattle.std.proofs.lemmas.List.{ext_get_or}
 use Rattle.plane.proofs.Tests.{lt_or_le}
 use Rattle.rows.specs.Cells.{Same, bit, At}
 use Rattle.rows.specs.Leaves.{Onto, RowSum, SumTo, SumOf}
@@ -150,12 +151,7 @@ bit_same p q x f g = ⊎_elim
     (λ u. let w : bit q x ≡ 1 = f (omega arith) in omega arith)
     (lt_or_le (bit p x) 1)
 
-pub rows_differ : (a b : List ℕ) → Rows16 a → Rows16 b → (q : ℕ) → (get_or a q 0 ≡ get_or b q 0 → ⊥) → Same (At a) (At b) → ⊥
-rows_differ a b wa wb q n s =
-    n (bits_ext 16 (get_or a q 0) (get_or b q 0) (wa.words q) (wb.words q) (λ x l. bit_same (get_or a q 0) (get_or b q 0) x (s.to x q) (s.from x q)))
-
-pub rows_same : (a b : List ℕ) → Rows16 a → Rows16 b → ((q : ℕ) → q < 16 → get_or a q 0 ≡ get_or b q 0) → Same (At a) (At b)
-rows_same a b wa wb e = record {
-  to = λ x y h. ap (λ (n : ℕ). bit n x) (sym (e y (in_y a wa x y h))) ∙ h;
-  from = λ x y h. ap (λ (n : ℕ). bit n x) (e y (in_y b wb x y h)) ∙ h;
-}
+-- are those of the same rows
+pub same_rows : (a b : List ℕ) → Rows16 a → Rows16 b → Same (At a) (At b) → a ≡ b
+same_rows a b wa wb s = ext_get_or 0 a b (wa.rows ∙ sym wb.rows) (λ q l.
+    bits_ext 16 (get_or a q 0) (get_or b q 0) (wa.words q) (wb.words q) (λ x k. bit_same (get_or a q 0) (get_or b q 0) x (s.to x q) (s.from x q)))

@@ -1,24 +1,10 @@
-use borrow.Author.Rules.{rules}
-use native.Mathlib.Omega.{arith}
-use mathlib.Core.Bool.{true≢false, false≢true}
-use borrow.Author.Count.{below_more}
-use Rattle.rows.proofs.Sums.{rows_differ, rows_same}
+-- Rows with the same cells are the same rows.
+use Rattle.std.proofs.Common.{◌≡◌, rules}
 use Rattle.rows.proofs.Known.{rows16}
+use Rattle.rows.proofs.Sums.{same_rows}
 use Rattle.row_steps.proofs.same.Goals as goal
 
-pub returns-then-a-i : goal.returns-then-a-i
-returns-then-a-i c =
-    let g = c.well_formed in
-    let a = c.args.a in
-    let b = c.args.b in
-    record { yes = λ e. absurd (false≢true e); no = λ e. rows_differ a b (rows16 a _ g.0) (rows16 b _ g.1.0) c.loop-i.i c.if-a-i.true }
-
-pub loop-i-preserved : goal.loop-i-preserved
-loop-i-preserved c = (search rules, below_more _ _ c.loop-i.invariant.1 c.if-a-i.false)
-
-pub returns : goal.returns
-returns c =
-    let g = c.well_formed in
-    let a = c.args.a in
-    let b = c.args.b in
-    record { yes = λ e. rows_same a b (rows16 a _ g.0) (rows16 b _ g.1.0) (λ q l. c.loop-i.invariant.1 q (omega arith)); no = λ e. absurd (true≢false e) }
+pub returns-clause-no : goal.returns-clause-no
+returns-clause-no c = λ e s.
+    let differ : c.args.a ≡ c.args.b → ⊥ = search rules in
+    differ (same_rows c.args.a c.args.b (rows16 c.args.a _ c.well_formed.0) (rows16 c.args.b _ c.well_formed.1.0) s)

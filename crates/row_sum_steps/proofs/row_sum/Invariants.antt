@@ -1,10 +1,6 @@
--- The invariant: r is z with a put onto it for each bit of b before i. The measure: the bits left.
-use Prim.Native.Nat.{◌≤◌, ◌-◌}
+-- The invariant: r is z with a put onto it for each bit of b before i.
 use Rattle.rows.specs.Leaves.{RowSum}
 use Rattle.row_sum_steps.proofs.row_sum.Given as goal
 
 abbrev pub invariant-loop-i : goal.invariant-loop-i
-invariant-loop-i l = (l.i ≤ 16) × RowSum l.initial.r l.a l.b l.j l.i l.r
-
-abbrev pub decreases-loop-i : goal.decreases-loop-i
-decreases-loop-i l = 16 - l.i
+invariant-loop-i l = RowSum l.initial.r l.a l.b l.j l.i l.r
