@@ -25,10 +25,7 @@ fn lone(b: u16) -> bool
     ensures yes { result ≡ true → Lone b }
     ensures no { result ≡ false → Two b }
 {
-    if b == 0 {
-        return true;
-    }
-    b >> (edge_steps::first_in(b) as u32) == 1
+    b == 0 || b >> (edge_steps::first_in(b) as u32) == 1
 }
 
 // Whether b is spaced by the step: then only its greatest number has none a step later.
@@ -45,22 +42,14 @@ fn fair(b: u16, only: u8) -> bool
     ensures yes { result ≡ true → Fair only (Bits b) }
     ensures no { result ≡ false → Fair only (Bits b) → ⊥ }
 {
-    if only != 2 {
-        if spaced(b, 1) {
-            return true;
-        }
-    }
-    if only != 1 {
-        return spaced(b, 2);
-    }
-    false
+    only != 2 && spaced(b, 1) || only != 1 && spaced(b, 2)
 }
 
 // 1 where s and v are the same, else 0.
 fn mark(s: u16, v: u16) -> u16
     ensures { Mark s v result }
 {
-    if s == v { 1 } else { 0 }
+    u16::from(s == v)
 }
 
 // The words of b, with y put to each where s and v are the same.
@@ -69,11 +58,8 @@ fn marked(b: [u16; 16], s: [u16; 16], v: [u16; 16], y: u32) -> [u16; 16]
     ensures { (i : ℕ) → i < 16 → Marked (get_or b i 0) (get_or s i 0) (get_or v i 0) y (get_or result i 0) }
 {
     let mut r = [0u16; 16];
-    let mut i = 0;
-    while i < 16 {
-        let m = mark(s[i], v[i]);
-        r[i] = b[i] | (m << y);
-        i += 1;
+    for i in 0..16 {
+        r[i] = b[i] | (mark(s[i], v[i]) << y);
     }
     r
 }
@@ -84,14 +70,12 @@ fn face_rows(cells: [u16; 16]) -> [u16; 16]
 {
     let s = edge_steps::greatest_of(cells);
     let mut r = [0u16; 16];
-    let mut y = 0;
-    while y < 16 {
+    for y in 0..16 {
         let row = cells[y];
         if row != 0 {
             let next = marked(r, s, edge_steps::greatest_in(row, y as u16), y as u32);
             r = next;
         }
-        y += 1;
     }
     r
 }
@@ -101,9 +85,10 @@ fn row_at(cells: [u16; 16], b: u16) -> u16
     ensures { RowAt cells b result }
 {
     if b == 0 {
-        return 0;
+        0
+    } else {
+        cells[edge_steps::first_in(b) as usize]
     }
-    cells[edge_steps::first_in(b) as usize]
 }
 
 // Whether the rows of each face are spaced as those of a sum of masks.
@@ -111,13 +96,10 @@ fn all_fair(rows: [u16; 16]) -> bool
     ensures yes { result ≡ true → AllFair rows }
     ensures no { result ≡ false → Unfair rows }
 {
-    let only = ONLY;
-    let mut i = 0;
-    while i < 16 {
-        if !fair(rows[i], only[i]) {
+    for i in 0..16 {
+        if !fair(rows[i], ONLY[i]) {
             return false;
         }
-        i += 1;
     }
     true
 }
@@ -129,11 +111,5 @@ pub fn may_be_sum(cells: [u16; 16]) -> bool
     ensures no { result ≡ false → NeverSum (At cells) }
 {
     let rows = face_rows(cells);
-    if !fair(row_at(cells, rows[4]), 0) {
-        return false;
-    }
-    if !fair(row_at(cells, rows[12]), 0) {
-        return false;
-    }
-    all_fair(rows)
+    fair(row_at(cells, rows[4]), 0) && fair(row_at(cells, rows[12]), 0) && all_fair(rows)
 }

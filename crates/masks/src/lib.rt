@@ -5,6 +5,7 @@ ghost use Rattle.std.specs.Prelude.{◌≡◌, ◌*◌, ◌/◌, ◌%◌, ◌^�
 ghost use Rattle.masks.specs.Mask.{has_column, column_shift, row_shift, NormalPosition};
 
 // The mask shifted down by rows, of three bits each, until row 0 has a cell; 0 for 0.
+// The loops of by_rows and by_columns count no index: they shift until a row, or a column, has a cell.
 fn by_rows(mask: u16) -> u16
     requires { mask < 512 }
     ensures { (result ≡ mask / 2 ^ (3 * row_shift mask)) × (result < 512) }
@@ -24,13 +25,7 @@ fn in_column_0(m: u16) -> bool
     requires { m < 512 }
     ensures { result ≡ has_column 0 m }
 {
-    if m % 2 == 1 {
-        return true;
-    }
-    if (m >> 3) % 2 == 1 {
-        return true;
-    }
-    (m >> 6) % 2 == 1
+    m % 2 == 1 || (m >> 3) % 2 == 1 || (m >> 6) % 2 == 1
 }
 
 // The mask shifted by columns, a bit each, until column 0 has a cell; 0 for 0.
