@@ -81,7 +81,7 @@ fn by_planes(from: &[u8], to: &mut [u8], plane: &mut [u8], s: Staging, o: usize)
 
 // The same, with N bytes of its own for the planes.
 fn with_planes<const N: usize>(from: &[u8], to: &mut [u8], s: Staging, o: usize)
-    requires { StageReady s.w s.h from.now to.old × PlanesReady o s.w s.h from.now (replicate N 0) }
+    requires { StageReady s.w s.h from.now to.old × PlanesReady o s.w s.h from.now (replicate N 0) × (N ≤ 65535) }
     ensures { to.new ≡ written s.w s.h (once s.stage.erode s.around s.w s.h s.stage.mask from.now) to.old }
 {
     let mut planes: [u8; N] = [0; N];
