@@ -4,8 +4,5 @@ use Rattle.text.proofs.Pages.{added_byte, added_full}
 use native.Mathlib.Omega.{arith}
 use Rattle.page_steps.proofs.with_byte.Goals as goal
 
-pub returns-then-n-ge288 : goal.returns-then-n-ge288
-returns-then-n-ge288 c = added_full _ _ (omega arith)
-
 pub returns : goal.returns
-returns c = added_byte _ _ _ refl refl
+returns c = ?
