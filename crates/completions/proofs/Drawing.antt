@@ -1,14 +1,16 @@
 -- Lists drawn from others, one mask a turn: those that fit, and then those without a number before those with it.
-use mathlib.Core.Path.{◌≡◌, refl, sym, ap, subst, ◌∙◌}
+use mathlib.Core.Path.{◌≡◌, sym, ap, subst, ◌∙◌}
 use mathlib.Core.Logic.{◌⊎◌, inl, inr, ⊎_elim}
 use mathlib.Core.List.{List}
 use Prim.Native.Nat.{ℕ, ◌+◌, ◌-◌, ◌≤◌, ◌<◌}
 use native.Mathlib.Omega.{arith}
-use lib.ListN.{length, get_or, set, length-set}
+use lib.ListN.{length, get_or, set, take, length-set, length-take}
+use Rattle.std.specs.Prelude.{Some}
 use lib.Seq.{get_or-set_same, get_or-set_other}
 use Rattle.plane.proofs.Tests.{lt_or_le}
 use Rattle.completions.specs.Completing.{Among, Fit, number_in}
 use Rattle.completions.specs.Pools.{Fitting, Split, Divided}
+use Rattle.completions.proofs.Nodes.{to_part, of_part}
 use Rattle.completions.proofs.Loops.{upto, among_more, among_one, put_kept, put_new, put_was, set_above, set_below}
 
 -- after j of cand: those that fit are the first n of list
@@ -167,27 +169,38 @@ behind_is xs other p q j f l b =
 
 -- ---- a list divided by a number that is needed
 
-pub divided_none : (nums need cand list : List ℕ) → (length cand ≤ 512 → (i : ℕ) → i < 18 → get_or need i 0 ≡ 0)
-    → Divided nums need cand list list (record { number = 18; without = 0; count = 0 })
-divided_none nums need cand list f = record { bound = omega arith; parts = λ l. absurd (omega arith); none = λ _. f; still = λ _. (refl, (refl, refl)) }
+-- those that fit, as a list of their own
+fitting_part : (nums need cand some : List ℕ) (n : ℕ) → length some ≡ 512 → Fitting nums need cand (length cand) some n
+    → Fitting nums need cand (length cand) (take n some) n
+fitting_part nums need cand some n long f =
+    let room = f.room in
+    let e : length (take n some) ≡ n = omega (arith, length-take n some) in
+    record {
+      all = λ m b a g. subst (λ (u : ℕ). Among (take n some) u m) e (to_part some n m (omega arith) (f.all m b a g));
+      only = λ m a. f.only m (of_part some n n m (omega arith) a);
+      fit = λ m a. f.fit m (of_part some n n m (omega arith) a);
+      few = f.few;
+      room = f.room;
+    }
 
-pub divided_by : (nums need cand list some list' : List ℕ) (n i p : ℕ) → i < 18 → length cand ≤ 512 → 0 < get_or need i 0 → Fitting nums need cand
-    (length cand) some n
-    → (length list ≡ 512 → Split nums some n i list' p) → Divided nums need cand list list' (record { number = i; without = p; count = n })
-divided_by nums need cand list some list' n i p l room z f split = record {
-  bound = omega arith;
-  parts = λ _ long. let s = split long in record {
-    room = room;
-    needed = z;
-    all = λ m b a g. s.all m b (f.all m b a g);
-    only = λ m a. f.only m (s.only m a);
-    fit = λ m a. f.fit m (s.only m a);
-    without = s.without;
-    having = s.having;
-    order = s.order;
-    few = f.few;
-    long = s.long;
-  };
-  none = λ e. absurd (omega arith);
-  still = λ e. absurd (omega arith);
-}
+pub divided_by : (nums need cand list some list' : List ℕ) (n i p : ℕ) → i < 18 → length cand ≤ 512 → 0 < get_or need i 0 → length some ≡ 512
+    → Fitting nums need cand (length cand) some n → (length list ≡ 512 → Split nums (take n some) (length (take n some)) i list' p)
+    → Divided nums need cand list list' (Some (record { number = i; without = p; count = n }))
+divided_by nums need cand list some list' n i p l room z wide few split =
+    let f = fitting_part nums need cand some n wide few in
+    let under = f.room in
+    let e : length (take n some) ≡ n = omega (arith, length-take n some) in (
+      l,
+      λ long. let s = subst (λ (u : ℕ). Split nums (take n some) u i list' p) e (split long) in record {
+        room = room;
+        needed = z;
+        all = λ m b a g. s.all m b (f.all m b a g);
+        only = λ m a. f.only m (s.only m a);
+        fit = λ m a. f.fit m (s.only m a);
+        without = s.without;
+        having = s.having;
+        order = s.order;
+        few = f.few;
+        long = s.long;
+      },
+    )

@@ -1,17 +1,16 @@
 -- What a node and a stage show, in the words of their contracts.
 use mathlib.Core.Path.{◌≡◌, refl, sym, subst, ◌∙◌}
-use mathlib.Core.Bool.{Bool, true, false}
+use mathlib.Core.Bool.{Bool}
 use mathlib.Core.List.{List}
-use Prim.Native.Nat.{ℕ, zero, suc, ◌-◌, ◌*◌, ◌≤◌, ◌<◌}
+use Prim.Native.Nat.{ℕ, zero, suc, ◌+◌, ◌-◌, ◌*◌, ◌≤◌, ◌<◌}
 use native.Mathlib.Omega.{arith}
 use lib.Dec.{T}
 use lib.ListN.{length, get_or, take, length-take}
 use lib.Seq.{get_or-take}
 use Rattle.rows.specs.Cells.{Cells, Sum, At, AtMask, chosen}
 use Rattle.completions.specs.declared.Here.{Here}
-use Rattle.completions.specs.declared.Child.{Child}
 use Rattle.completions.specs.declared.Branch.{Branch}
-use Rattle.completions.specs.Completing.{Among, None, NoneThrough, Spent, Replaces, number_in, aim_of, partial_sum, Ready, Stepped, Allowed}
+use Rattle.completions.specs.Completing.{Among, None, NoneThrough, Spent, Replaces, number_in, aim_of, partial_sum, Ready, Below, Passed, Allowed}
 use Rattle.completions.specs.Completing.{NoneHere, NoneBefore, NoSum}
 use Rattle.completions.specs.Pools.{Parts}
 use Rattle.completions.proofs.Loops.{among_more}
@@ -56,14 +55,14 @@ module _ (nums : List ℕ) (here : Here) (cand : List ℕ) (k : ℕ) where
         (spent_none permitted (aim_of here) Y xs (length xs) k);
   }
 
-  pub turned_more : (xs : List ℕ) (r : ℕ) → 0 < r → r ≤ length xs → Turned xs r → NoneBefore nums here xs r k → Turned xs (r - 1)
-  turned_more xs r p l t h = record {
+  pub turned_more : (xs : List ℕ) (j : ℕ) → j < length xs → Turned xs (j + 1) → NoneBefore nums here xs (j + 1) k → Turned xs j
+  turned_more xs j l t h = record {
     spent = λ permitted s a.
-        let e : suc (r - 1) ≡ r = omega arith in
+        let e : suc j ≡ j + 1 = omega arith in
         let was = t.spent permitted s a in
-        spent_more permitted (aim_of here) Y xs (length xs) k (r - 1) (omega arith)
-        (subst (λ (j : ℕ). Spent permitted (aim_of here) Y xs (length xs) j k) (sym e) was)
-        (subst (λ (j : ℕ). NoneThrough permitted (aim_of here) Y xs j k (get_or xs (r - 1) 0)) (sym e) (h.no permitted s a was (r - 1) e));
+        spent_more permitted (aim_of here) Y xs (length xs) k j l
+        (subst (λ (i : ℕ). Spent permitted (aim_of here) Y xs (length xs) i k) (sym e) was)
+        (subst (λ (i : ℕ). NoneThrough permitted (aim_of here) Y xs i k (get_or xs j 0)) (sym e) (h.no permitted s a was j e));
   }
 
   -- the loop's end: a number is needed that none of those left has
@@ -92,53 +91,58 @@ module _ (nums : List ℕ) (here : Here) (cand : List ℕ) (k : ℕ) where
 
 -- ---- a stage
 
-module _ (nums : List ℕ) (here : Here) (list : List ℕ) (r k : ℕ) (r-in : 0 < r) (r-to : r ≤ length list) where
+module _ (nums : List ℕ) (here : Here) (list : List ℕ) (j k : ℕ) (l : j < length list) where
   abbrev Z : Cells
   Z = partial_sum here
 
   abbrev m : ℕ
-  m = get_or list (r - 1) 0
+  m = get_or list j 0
 
-  before_is : (j : ℕ) → suc j ≡ r → j ≡ r - 1
-  before_is j e = omega arith
+  abbrev r : ℕ
+  r = j + 1
+
+  r-to : r ≤ length list
+  r-to = omega arith
+
+  before_is : (i : ℕ) → suc i ≡ r → i ≡ j
+  before_is i e = omega arith
 
   permitted_m : (permitted : ℕ → Bool) → Allowed permitted list → T (permitted m)
-  permitted_m permitted a = a m (record { at = r - 1; before = omega arith; is = refl })
+  permitted_m permitted a = a m (record { at = j; before = l; is = refl })
 
-  -- what is shown of the mask before r
+  -- what is shown of the mask at j
   none_of : ((permitted : ℕ → Bool) → Ready permitted nums here → Allowed permitted list → Spent permitted (aim_of here) Z list (length list) r k
       → NoneThrough permitted (aim_of here) Z list r k m) → NoneBefore nums here list r k
   none_of f = record {
-    no = λ permitted s a t j e. subst (λ (i : ℕ). NoneThrough permitted (aim_of here) Z list r k (get_or list i 0)) (sym (before_is j e))
+    no = λ permitted s a t i e. subst (λ (i : ℕ). NoneThrough permitted (aim_of here) Z list r k (get_or list i 0)) (sym (before_is i e))
         (f permitted s a t);
   }
 
   -- rule S: a mask that was tried replaces it
-  pub stage_replaced : (p : ℕ) → p < length list → r ≤ p → ((i j : ℕ) → AtMask m i j → Replaces (At here.rest) m (get_or list p 0))
+  pub stage_replaced : (p : ℕ) → p < length list → r ≤ p → ((x y : ℕ) → AtMask m x y → Replaces (At here.rest) m (get_or list p 0))
       → NoneBefore nums here list r k
-  stage_replaced p l q f = none_of (λ permitted s a t.
+  stage_replaced p b q f = none_of (λ permitted s a t.
       let c = (s.known.spans m (permitted_m permitted a)).left in
-      replaced_gone permitted (aim_of here) Z list (length list) k (number_in nums) (At here.rest) here.need s.state r m p q l t
-      (a (get_or list p 0) (record { at = p; before = l; is = refl })) (f 0 c.0 c.1))
+      replaced_gone permitted (aim_of here) Z list (length list) k (number_in nums) (At here.rest) here.need s.state r m p q b t
+      (a (get_or list p 0) (record { at = p; before = b; is = refl })) (f 0 c.0 c.1))
 
-  module _ (c : Child) (st : Stepped nums here m c) where
-    -- it is passed over
-    pub stage_passed : c.ok ≡ false → here.len < 32 → NoneBefore nums here list r k
-    stage_passed e l = none_of (λ permitted s a t. passed_over permitted (aim_of here) Z list r k m (st.no e l permitted s))
+  -- it is passed over
+  pub stage_passed : Passed nums here m → here.len < 32 → NoneBefore nums here list r k
+  stage_passed st l = none_of (λ permitted s a t. passed_over permitted (aim_of here) Z list r k m (st.no l permitted s))
 
-    -- nothing completes the sum below it
-    pub stage_none : c.ok ≡ true → 0 < k → NoneHere nums c.here (take r list) (k - 1) → NoneBefore nums here list r k
-    stage_none e p h = none_of (λ permitted s a t. none_below permitted (aim_of here) Z list r k m p (below permitted s a))
-      where
-        part : (permitted : ℕ → Bool) → Allowed permitted list → Allowed permitted (take r list)
-        part permitted a q b = a q (among_more list r (length list) q r-to
-            (among_more list _ r q (omega (arith, length-take r list)) (of_part list r (length (take r list)) q (omega (arith, length-take r list)) b)))
+  -- nothing completes the sum below it
+  pub stage_none : (c : Here) → Below nums here m c → 0 < k → NoneHere nums c (take r list) (k - 1) → NoneBefore nums here list r k
+  stage_none c st p h = none_of (λ permitted s a t. none_below permitted (aim_of here) Z list r k m p (below permitted s a))
+    where
+      part : (permitted : ℕ → Bool) → Allowed permitted list → Allowed permitted (take r list)
+      part permitted a q b = a q (among_more list r (length list) q r-to
+          (among_more list _ r q (omega (arith, length-take r list)) (of_part list r (length (take r list)) q (omega (arith, length-take r list)) b)))
 
-        below : (permitted : ℕ → Bool) → Ready permitted nums here → Allowed permitted list → None permitted (aim_of here) (Sum Z (AtMask m)) list r (k - 1)
-        below permitted s a = record {
-          no = λ L f b q. (h.no permitted (st.below.ready e permitted s (permitted_m permitted a)) (part permitted a)).no L
-              (below_fills nums here m c st.below e permitted L f) (λ v g. to_part list r v r-to (b v g)) q;
-        }
+      below : (permitted : ℕ → Bool) → Ready permitted nums here → Allowed permitted list → None permitted (aim_of here) (Sum Z (AtMask m)) list r (k - 1)
+      below permitted s a = record {
+        no = λ L f b q. (h.no permitted (st.ready permitted s (permitted_m permitted a)) (part permitted a)).no L
+            (below_fills nums here m c st permitted L f) (λ v g. to_part list r v r-to (b v g)) q;
+      }
 
 -- ---- from the start
 

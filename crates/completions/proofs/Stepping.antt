@@ -1,6 +1,6 @@
 -- The state below a mask: its residue, the numbers that are needed and the path; and why nothing completes a sum with a mask that is passed over.
 use mathlib.Core.Path.{◌≡◌, refl, sym, subst}
-use mathlib.Core.Bool.{Bool, true, false, true≢false, false≢true}
+use mathlib.Core.Bool.{Bool}
 use mathlib.Core.Logic.{inl, inr, ⊎_elim}
 use mathlib.Core.List.{List, [], ◌∷◌}
 use Prim.Native.Nat.{ℕ, ◌+◌, ◌-◌, ◌≤◌, ◌<◌}
@@ -15,8 +15,7 @@ use Rattle.rows.proofs.Chosen.{chosen_more}
 use Rattle.rows.proofs.Addition.{same_sym, same_trans, to_cell, add_cells, sum_comm}
 use Rattle.rows.proofs.Sums.{Rows16, in_x, in_y}
 use Rattle.completions.specs.declared.Here.{Here}
-use Rattle.completions.specs.declared.Child.{Child}
-use Rattle.completions.specs.Completing.{Fills, Open, Fit, Differs, Spans, Unmet, Masks, aim_of, partial_sum, extents_of, Ready, Below, Stepped, number_in}
+use Rattle.completions.specs.Completing.{Fills, Open, Fit, Differs, Spans, Unmet, Masks, aim_of, partial_sum, extents_of, Ready, Below, number_in}
 use Rattle.completions.proofs.Members.{down, down_counts, not_fit, in_rest, fills_same}
 
 -- ---- what is known does not depend on how the sum is written
@@ -65,21 +64,6 @@ pub gained : (a b c d : ℕ) → c ≤ a → d ≤ b → (c ≡ a → d ≡ b �
 gained a b c d p q f = ⊎_elim (λ e. ⊎_elim (λ g. absurd (f e g)) (λ g. omega arith) (eq-or-lt_of_le q)) (λ e. omega arith) (eq-or-lt_of_le p)
 
 -- ---- a mask that is passed over
-
--- where there is no state nothing is said of one
-pub below_no : (nums : List ℕ) (here : Here) (m : ℕ) (there : Here) → Below nums here m (record { ok = false; here = there })
-below_no nums here m there = record {
-  same = λ e. absurd (false≢true e);
-  longer = λ e. absurd (false≢true e);
-  falls = λ e. absurd (false≢true e);
-  ready = λ e. absurd (false≢true e);
-}
-
-pub stepped_no : (nums : List ℕ) (here : Here) (m : ℕ)
-    → (here.len < 32 → (permitted : ℕ → Bool) → Ready permitted nums here → T (permitted m) → (L : List ℕ) → Fills permitted (aim_of here)
-    (Sum (partial_sum here) (AtMask m)) L → ⊥)
-    → Stepped nums here m (record { ok = false; here = here })
-stepped_no nums here m f = record { outside = λ _. refl; back = λ _. refl; below = below_no nums here m here; no = λ e. f }
 
 module _ (nums : List ℕ) (here : Here) (m : ℕ) where
   abbrev Y : Cells
@@ -160,27 +144,21 @@ module _ (nums : List ℕ) (here : Here) (m : ℕ) where
             (down permitted (number_in nums) (aim_of here) Y (At rest) here.need r.state m t (At left) need' rest_same g));
       }
 
-  pub stepped_yes : Rows16 rest → (left need' : List ℕ) → CutTo (Residue (At rest) (AtMask m)) left
+  pub below_yes : Rows16 rest → (left need' : List ℕ) → CutTo (Residue (At rest) (AtMask m)) left
       → ((i : ℕ) → i < 18 → get_or need' i 0 ≡ get_or here.need i 0 - number_in nums i m)
       → here.len < 32 → length here.path ≡ 32 → get_or need' 16 0 + get_or need' 17 0 < extents_of here
-      → Stepped nums here m
-      (record { ok = true; here = record { target = here.target; rest = left; path = set here.path here.len m; len = here.len + 1; need = need' } })
-  stepped_yes known left need' c g l w v = let e = chosen_more here.path here.len m (omega arith) in record {
-    outside = λ d. absurd (omega arith);
-    back = λ d. absurd (true≢false d);
-    below = record {
-      same = λ _. refl;
-      longer = λ _. (e, refl);
-      falls = λ _. v;
-      ready = λ _ permitted r t. below_ready permitted r t known left c need' g (set here.path here.len m) (here.len + 1) e;
-    };
-    no = λ d. absurd (true≢false d);
+      → Below nums here m (record { target = here.target; rest = left; path = set here.path here.len m; len = here.len + 1; need = need' })
+  below_yes known left need' c g l w v = let e = chosen_more here.path here.len m (omega arith) in record {
+    same = refl;
+    longer = (e, refl);
+    falls = v;
+    ready = λ permitted r t. below_ready permitted r t known left c need' g (set here.path here.len m) (here.len + 1) e;
   }
 
 -- what completes the sum with m completes the sum of the state below
-pub below_fills : (nums : List ℕ) (here : Here) (m : ℕ) (r : Child) → Below nums here m r → r.ok ≡ true → (permitted : ℕ → Bool) (L : List ℕ)
-    → Fills permitted (aim_of here) (Sum (partial_sum here) (AtMask m)) L → Fills permitted (aim_of r.here) (partial_sum r.here) L
-below_fills nums here m r b e permitted L f =
-    subst (λ (A : List ℕ). Fills permitted (At A) (partial_sum r.here) L) (sym (b.same e))
-    (subst (λ (ms : List ℕ). Fills permitted (aim_of here) (AtSum ms) L) (sym (b.longer e).0)
+pub below_fills : (nums : List ℕ) (here : Here) (m : ℕ) (r : Here) → Below nums here m r → (permitted : ℕ → Bool) (L : List ℕ)
+    → Fills permitted (aim_of here) (Sum (partial_sum here) (AtMask m)) L → Fills permitted (aim_of r) (partial_sum r) L
+below_fills nums here m r b permitted L f =
+    subst (λ (A : List ℕ). Fills permitted (At A) (partial_sum r) L) (sym b.same)
+    (subst (λ (ms : List ℕ). Fills permitted (aim_of here) (AtSum ms) L) (sym b.longer.0)
     (fills_same permitted (aim_of here) (Sum (partial_sum here) (AtMask m)) (Sum (AtMask m) (partial_sum here)) L sum_comm f))

@@ -1,11 +1,10 @@
 -- What the quick search answers of a partial sum: that no masks of a list complete it to the target. Masks are taken in any order and any of them more than
 -- once; which are permitted, and the numbers of each, are parameters.
-use Rattle.std.specs.Prelude.{◌≡◌, Bool, true, false, ◌⊎◌, List, ◌∷◌, ℕ, suc, ◌+◌, ◌*◌, ◌≤◌, ◌<◌, T, length, get_or}
+use Rattle.std.specs.Prelude.{◌≡◌, Bool, ◌⊎◌, List, ◌∷◌, ℕ, suc, ◌+◌, ◌*◌, ◌≤◌, ◌<◌, T, length, get_or, Option, MatchOption}
 use Rattle.plane.specs.Lists.{In}
 use Rattle.edges.specs.Edges.{summed}
 use Rattle.rows.specs.Cells.{Cells, Same, Sum, Residue, At, AtMask, AtOrigin, AtSum, chosen}
 use Rattle.completions.specs.declared.Here.{Here}
-use Rattle.completions.specs.declared.Child.{Child}
 
 -- the masks L, each permitted, complete Y to A
 pub record Fills (permitted : ℕ → Bool) (A Y : Cells) (L : List ℕ) : Type 0 where
@@ -84,20 +83,21 @@ pub record Ready (permitted : ℕ → Bool) (nums : List ℕ) (here : Here) : Ty
   pub known : Masks permitted nums
   pub state : Open permitted (number_in nums) (aim_of here) (partial_sum here) (At here.rest) here.need
 
--- where r is a state, it is the state below by the mask m
-pub record Below (nums : List ℕ) (here : Here) (m : ℕ) (r : Child) : Type 0 where
-  pub same : r.ok ≡ true → r.here.target ≡ here.target
-  pub longer : r.ok ≡ true → (chosen r.here.path r.here.len ≡ m ∷ chosen here.path here.len) × (r.here.len ≡ here.len + 1)
-  pub falls : r.ok ≡ true → extents_of r.here < extents_of here
-  pub ready : r.ok ≡ true → (permitted : ℕ → Bool) → Ready permitted nums here → T (permitted m) → Ready permitted nums r.here
+-- r is the state below by the mask m
+pub record Below (nums : List ℕ) (here : Here) (m : ℕ) (r : Here) : Type 0 where
+  pub same : r.target ≡ here.target
+  pub longer : (chosen r.path r.len ≡ m ∷ chosen here.path here.len) × (r.len ≡ here.len + 1)
+  pub falls : extents_of r < extents_of here
+  pub ready : (permitted : ℕ → Bool) → Ready permitted nums here → T (permitted m) → Ready permitted nums r
 
--- the state below by the mask m, or that nothing completes the sum with m, with the state as it was; a path of 32 has no room for m
-pub record Stepped (nums : List ℕ) (here : Here) (m : ℕ) (r : Child) : Type 0 where
-  pub outside : 32 ≤ here.len → r.ok ≡ false
-  pub back : r.ok ≡ false → r.here ≡ here
-  pub below : Below nums here m r
-  pub no : r.ok ≡ false → here.len < 32 → (permitted : ℕ → Bool) → Ready permitted nums here → T (permitted m) → (L : List ℕ)
+-- nothing completes the sum with the mask m, where the path has room for it
+pub record Passed (nums : List ℕ) (here : Here) (m : ℕ) : Type 0 where
+  pub no : here.len < 32 → (permitted : ℕ → Bool) → Ready permitted nums here → T (permitted m) → (L : List ℕ)
       → Fills permitted (aim_of here) (Sum (partial_sum here) (AtMask m)) L → ⊥
+
+-- the state below by the mask m, or that nothing completes the sum with m; a path of 32 has no room for m
+abbrev pub Stepped : List ℕ → Here → ℕ → Option Here → Type 0
+Stepped nums here m r = MatchOption r (Passed nums here m) (λ b. (here.len < 32) × Below nums here m b)
 
 -- each mask of a list is permitted
 abbrev pub Allowed : (ℕ → Bool) → List ℕ → Type 0

@@ -1,5 +1,5 @@
 -- The list of masks that a partial sum is left with: those of a list that fit what is needed, those without some number that is needed before those with it.
-use Rattle.std.specs.Prelude.{◌≡◌, ◌⊎◌, List, ℕ, ◌+◌, ◌≤◌, ◌<◌, length, get_or}
+use Rattle.std.specs.Prelude.{◌≡◌, ◌⊎◌, List, ℕ, ◌+◌, ◌≤◌, ◌<◌, length, get_or, Option, MatchOption}
 use Rattle.completions.specs.declared.Branch.{Branch}
 use Rattle.completions.specs.Completing.{Among, Fit, number_in}
 
@@ -42,10 +42,12 @@ pub record Parts (nums need cand list : List ℕ) (r : Branch) : Type 0 where
   pub few : r.count ≤ length cand
   pub long : length list ≡ 512
 
--- so it is where a number is needed and the candidates are 512 at most; else the number is 18, nothing is counted, and the list is as it was. That the list
--- has 512 words is its type's to say
-pub record Divided (nums need cand list list' : List ℕ) (r : Branch) : Type 0 where
-  pub bound : r.number ≤ 18
-  pub parts : r.number < 18 → length list ≡ 512 → Parts nums need cand list' r
-  pub none : r.number ≡ 18 → length cand ≤ 512 → (i : ℕ) → i < 18 → get_or need i 0 ≡ 0
-  pub still : r.number ≡ 18 → (r.without ≡ 0) × ((r.count ≡ 0) × (list' ≡ list))
+-- no number is needed, or the candidates are over 512; the list is as it was
+pub record Undivided (need cand list list' : List ℕ) : Type 0 where
+  pub none : length cand ≤ 512 → (i : ℕ) → i < 18 → get_or need i 0 ≡ 0
+  pub still : list' ≡ list
+
+-- the list is divided where a number is needed and the candidates are 512 at most. That the list has 512 words is its type's to say
+abbrev pub Divided : List ℕ → List ℕ → List ℕ → List ℕ → List ℕ → Option Branch → Type 0
+Divided nums need cand list list' r =
+    MatchOption r (Undivided need cand list list') (λ b. (b.number < 18) × (length list ≡ 512 → Parts nums need cand list' b))

@@ -13,15 +13,8 @@ pub struct Here {
     pub need: [u8; 18],
 }
 
-// The partial sum below, or none.
-#[derive(Drop)]
-pub struct Child {
-    pub ok: bool,
-    pub here: Here,
-}
-
-// What a list was divided by: a number, or 18; how many masks of the list are without it, and how many there are.
-#[derive(Drop)]
+// What a list was divided by: a number; how many masks of the list are without it, and how many there are.
+#[derive(Clone, Copy)]
 pub struct Branch {
     pub number: usize,
     pub without: usize,

@@ -1,6 +1,4 @@
 pub mod Ranges
-pub mod Reaches
-pub mod Signs
 pub mod Stands
 pub mod Made
 pub mod Moving

@@ -5,7 +5,7 @@ use mathlib.Core.List.{List, map}
 use Prim.Native.Nat.{ℕ}
 use native.Mathlib.Omega.{arith}
 use lib.Dec.{T, not_T}
-use lib.IntN.{pos, ◌+ℤ◌, +ℤ_idl, ℤ}
+use lib.IntN.{pos, ◌+ℤ◌, ◌-ℤ◌, neg_ℤ, +ℤ_idl, +ℤ_assoc, +ℤ_comm, ℤ}
 use Rattle.plane.specs.Lists.{In}
 use Rattle.plane.specs.Point.{Point, point, ◌+ᵖ◌, ◌≐◌}
 use Rattle.plane.proofs.Algebra.{+ᵖ_assoc, ≐_trans, ≐_sym}
@@ -16,10 +16,15 @@ use Rattle.shapes.specs.Shape.{out_of_range, too_far}
 use Rattle.elements.specs.declared.Shape.{Shape}
 use Rattle.elements.specs.Standing.{points_of, place, Sound, no_shape, Made, Along, Within}
 use Rattle.elements.proofs.Ranges.{coordinate, range_flat}
-use Rattle.elements.proofs.Signs.{moved_at}
 use Rattle.elements.proofs.Stands.{points_of_lem, sound_cell, cells_sound, sound_within}
 use Rattle.elements.proofs.Made.{made_in, made_far}
 use Rattle.shapes.proofs.Range.{range_same}
+
+-- the point is moved as its biased coordinate is
+moved_at : (x : ℕ) (d z : ℤ) → pos x +ℤ d ≡ z → coordinate x +ℤ d ≡ z -ℤ pos 15
+moved_at x d z e =
+    +ℤ_assoc (pos x) (neg_ℤ (pos 15)) d ∙ ap (λ w. pos x +ℤ w) (+ℤ_comm (neg_ℤ (pos 15)) d) ∙ sym (+ℤ_assoc (pos x) d (neg_ℤ (pos 15)))
+    ∙ ap (λ w. w -ℤ pos 15) e
 
 module _ (s : Shape) (w : Rows16 s.rows) (S : Sound s) (d : Point) (vx vy : ℕ) (X : Along s.x d.0 vx) (Y : Along s.y d.1 vy) where
   abbrev A : List Point

@@ -1,6 +1,6 @@
 -- The points of a shape are its cells, moved; whether it is sound is seen from its cells.
 use mathlib.Core.Path.{◌≡◌, refl, sym, ap, subst}
-use mathlib.Core.Logic.{◌↔◌, inl, inr}
+use mathlib.Core.Logic.{◌↔◌}
 use mathlib.Core.Bool.{Bool, true, not}
 use mathlib.Core.List.{List, map}
 use Prim.Native.Nat.{ℕ, ◌+◌, ◌≤◌}
@@ -17,7 +17,7 @@ use Rattle.shapes.specs.Shape.{out_of_range}
 use Rattle.elements.specs.declared.Shape.{Shape}
 use Rattle.elements.specs.Standing.{cells_of, points_of, place, Sound, Within}
 use Rattle.elements.proofs.Ranges.{cells_range, range_cells}
-use Rattle.extents.specs.Extents.{SomeCell, Least, FirstOf, row, column}
+use Rattle.extents.specs.Extents.{SomeCell, Least, row, column}
 
 -- the cells of rows
 pub cells_at : (rows : List ℕ) → Rows16 rows → (x y : ℕ) → In (cells_of rows) (x, y) ↔ At rows x y
@@ -74,14 +74,9 @@ cells_sound s w f = cells_range (points_of s) (At s.rows) s.x s.y (points_of_lem
 pub some : {number : ℕ → ℕ → ℕ} {X : Cells} {n : ℕ} → Least number X n → SomeCell X
 some l = record { x = l.x; y = l.y; cell = l.cell }
 
--- whether a value is a shape, by what its cells show
-pub is_sound : (s : Shape) → Rows16 s.rows → s.fits ≡ true → FirstOf row (At s.rows) 0 → FirstOf column (At s.rows) 0
-    → Within (At s.rows) s.x s.y 30 → Sound s
-is_sound s w f r c h = record { fits = f; left = least c; top = least r; range = cells_sound s w h.all }
-  where
-    least : {number : ℕ → ℕ → ℕ} → FirstOf number (At s.rows) 0 → Least number (At s.rows) 0
-    least (inl l) = l
-    least (inr e) = absurd (omega (arith, e.1))
+-- a value is a shape by what its cells show
+pub is_sound : (s : Shape) → Rows16 s.rows → s.fits ≡ true → Least row (At s.rows) 0 → Least column (At s.rows) 0 → Within (At s.rows) s.x s.y 30 → Sound s
+is_sound s w f r c h = record { fits = f; left = c; top = r; range = cells_sound s w h.all }
 
 pub sound_within : (s : Shape) → Rows16 s.rows → Sound s → Within (At s.rows) s.x s.y 30
 sound_within s w S = record { all = λ x y c. let b = sound_cell s w S x y c in (b.2, b.3) }

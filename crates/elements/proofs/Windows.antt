@@ -16,7 +16,7 @@ use Rattle.plane.proofs.Integer.{diff_ge, diff_lt, ≤ℤ_to}
 use Rattle.plane.proofs.Member.{In-map}
 use Rattle.plane.proofs.Tests.{lt_or_le}
 use Rattle.rows.specs.Cells.{Same, At, Points}
-use Rattle.rows.specs.Leaves.{Lowered, Raised}
+use Rattle.rows.specs.Leaves.{Lowered}
 use Rattle.extents.specs.Extents.{Least, row, column}
 use Rattle.rows.proofs.Sums.{Rows16, in_x, in_y}
 use Rattle.shapes.specs.Listed.{below, least_anchor}
@@ -70,12 +70,9 @@ module _ (w : Window) (W : Rows16 w.rows) (G : Anchored w) (i j : ℕ) (I : Leas
   pub from_made : Made (Anchored w) A from
   from_made = made_in (Anchored w) A from G points_from from_sound
 
--- the first row and column are in the window
+-- the first column is in the window
 pub least_x : (rows : List ℕ) (i : ℕ) → Rows16 rows → Least column (At rows) i → i < 16
 least_x rows i w I = subst (λ (n : ℕ). n < 16) I.at (in_x rows w I.x I.y I.cell)
-
-pub least_y : (rows : List ℕ) (j : ℕ) → Rows16 rows → Least row (At rows) j → j < 16
-least_y rows j w J = subst (λ (n : ℕ). n < 16) J.at (in_y rows w J.x J.y J.cell)
 
 -- ---- into the window
 
@@ -154,12 +151,3 @@ module _ (s : Shape) (w : Rows16 s.rows) (S : Sound s) where
       points_are =
           ≐_trans (window_points_lem r.rows (15 - s.x, 15 - s.y) wr (omega arith) (omega arith))
           (≐_trans (raised_points (At s.rows) (At r.rows) (s.x - 15) (s.y - 15) k l I.cells stays) there)
-
--- what the code's numbers say
-pub window_is : (s : Shape) (ax ay i j : ℕ) (rows : List ℕ) → ax ≡ 15 - s.x → ay ≡ 15 - s.y → i ≡ s.x - 15 → j ≡ s.y - 15
-    → Raised (At s.rows) i j (At rows) → InWindow s (record { ax = ax; ay = ay; rows = rows })
-window_is s ax ay i j rows p q k l R = record {
-  ax = p;
-  ay = q;
-  cells = subst (λ (n : ℕ). Raised (At s.rows) (s.x - 15) n (At rows)) l (subst (λ (n : ℕ). Raised (At s.rows) n j (At rows)) k R);
-}

@@ -1,5 +1,5 @@
 -- How far the cells of the window reach: the least and the greatest column or row with a cell, and what the functions that look for them answer.
-use Rattle.std.specs.Prelude.{◌≡◌, ◌⊎◌, List, ℕ, ◌≤◌, ◌<◌}
+use Rattle.std.specs.Prelude.{◌≡◌, List, ℕ, Option, None, Some, ◌≤◌, ◌<◌}
 use Rattle.rows.specs.Cells.{Cells, At, bit}
 
 -- X has no cell
@@ -36,13 +36,15 @@ pub record Greatest (number : ℕ → ℕ → ℕ) (X : Cells) (n : ℕ) : Type 
   pub at : number x y ≡ n
   pub all : (x y : ℕ) → X x y → number x y ≤ n
 
--- n is the least number of a cell of X, or 16 where X has none
-abbrev pub FirstOf : (ℕ → ℕ → ℕ) → Cells → ℕ → Type 0
-FirstOf number X n = Least number X n ⊎ (NoCell X × (n ≡ 16))
+-- what a search for the least number of a cell of X answers: None where X has none
+abbrev pub FirstOf : (ℕ → ℕ → ℕ) → Cells → Option ℕ → Type 0
+FirstOf number X None = NoCell X
+FirstOf number X (Some n) = Least number X n
 
--- n is the greatest number of a cell of X, or 16 where X has none
-abbrev pub LastOf : (ℕ → ℕ → ℕ) → Cells → ℕ → Type 0
-LastOf number X n = Greatest number X n ⊎ (NoCell X × (n ≡ 16))
+-- what a search for the greatest number of a cell of X answers: None where X has none
+abbrev pub LastOf : (ℕ → ℕ → ℕ) → Cells → Option ℕ → Type 0
+LastOf number X None = NoCell X
+LastOf number X (Some n) = Greatest number X n
 
 -- bit x of r is set where a has a cell in column x before row n
 pub record Columns (a : List ℕ) (n r : ℕ) : Type 0 where

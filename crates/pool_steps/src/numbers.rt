@@ -1,20 +1,6 @@
 // The eighteen numbers of masks, in a flat table with eighteen for each, held against the numbers that are needed.
-ghost use Rattle.std.specs.Prelude.{◌≡◌, ℕ, ◌-◌, ◌<◌, ◌≤◌, max, true, false, slice_index};
+ghost use Rattle.std.specs.Prelude.{◌≡◌, ℕ, ◌-◌, ◌<◌, ◌≤◌, true, false, slice_index};
 ghost use Rattle.completions.specs.Completing.{number_in, Fit};
-
-// a - b, or 0 where b is the greater.
-fn lower(a: u8, b: u8) -> u8
-    ensures { result ≡ a - b }
-{
-    if a < b { 0 } else { a - b }
-}
-
-// The greater of a and b.
-fn greater(a: u8, b: u8) -> u8
-    ensures { result ≡ max a b }
-{
-    if a < b { b } else { a }
-}
 
 // Whether m is one of the 512 masks and no number of it is above what is needed. The loop always runs to its end, so that the numbers are held against each
 // other together.
@@ -27,10 +13,8 @@ pub fn fits(need: [u8; 18], nums: &[u8; 9216], m: u16) -> bool
     }
     let at = (m as usize) * 18;
     let mut over: u8 = 0;
-    let mut i: usize = 0;
-    while i < 18 {
-        over = greater(over, lower(nums[at + i], need[i]));
-        i += 1;
+    for i in 0..18 {
+        over = over.max(nums[at + i].saturating_sub(need[i]));
     }
     over == 0
 }
@@ -45,10 +29,8 @@ pub fn less(need: [u8; 18], nums: &[u8; 9216], m: u16) -> [u8; 18]
     }
     let at = (m as usize) * 18;
     let mut r = need;
-    let mut i: usize = 0;
-    while i < 18 {
-        r[i] = lower(need[i], nums[at + i]);
-        i += 1;
+    for i in 0..18 {
+        r[i] = need[i].saturating_sub(nums[at + i]);
     }
     r
 }
@@ -66,10 +48,7 @@ pub(crate) fn having(nums: &[u8; 9216], i: usize, m: u16) -> usize
     requires { i < 18 }
     ensures { (result ≤ 1) × ((1 ≤ result → 0 < number_in nums.now i m) × (result ≡ 0 → m < 512 → number_in nums.now i m ≡ 0)) }
 {
-    if 512 <= m {
-        return 0;
-    }
-    if nums[(m as usize) * 18 + i] == 0 {
+    if 512 <= m || nums[(m as usize) * 18 + i] == 0 {
         0
     } else {
         1

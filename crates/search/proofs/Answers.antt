@@ -1,7 +1,8 @@
 -- How an answer follows from the answers below it: at a leaf, past the masks that complete nothing, and with the first stage put before what completes the
 -- sum below it. All of it over any permitted masks.
-use mathlib.Core.Path.{◌≡◌, refl, sym, subst, ◌∙◌}
-use mathlib.Core.Bool.{Bool, true, false, not, ◌&&◌, true≢false, false≢true}
+use mathlib.Core.Path.{◌≡◌, sym, subst, ◌∙◌}
+use mathlib.Core.Bool.{Bool, not, ◌&&◌}
+use Rattle.std.specs.Prelude.{Option, Some, None}
 use mathlib.Core.Logic.{⊎_elim}
 use mathlib.Core.List.{List, [], ◌∷◌}
 use Prim.Native.Nat.{ℕ, zero, suc, ◌+◌, ◌-◌, ◌≤◌, ◌<◌}
@@ -16,11 +17,10 @@ use Rattle.masks.specs.Chain.{falling, smaller}
 use Rattle.masks.specs.Mask.{stage}
 use Rattle.masks.proofs.Cells.{stage_below}
 use Rattle.rows.specs.Cells.{Cells, Same, Sum, At, AtMask, AtSum, chosen}
-use Rattle.search.specs.Tree.{Completes, FirstLine, NoneFirst, Narrowed}
-use Rattle.search.specs.Asking.{Led}
+use Rattle.search.specs.Tree.{Completes, Line, FirstLine, NoneFirst, Narrowed}
+use Rattle.search.specs.Asking.{Ended}
 use Rattle.completions.specs.declared.Here.{Here}
-use Rattle.completions.specs.declared.Child.{Child}
-use Rattle.completions.specs.Completing.{Among, aim_of, partial_sum, Ready, Allowed}
+use Rattle.completions.specs.Completing.{Among, aim_of, partial_sum, Ready, Below, Allowed}
 use Rattle.completions.specs.Opening.{Roomy}
 use Rattle.rows.proofs.Chosen.{chosen_set}
 use Rattle.rows.proofs.Addition.{same_refl, same_sym, same_trans, sum_both, sum_comm, sum_assoc, sum_origin}
@@ -60,25 +60,22 @@ module _ (permitted : ℕ → Bool) where
 
     -- ---- no stage is left
 
-    pub at_leaf : (k m : ℕ) (found : Bool) (masks : List ℕ) → k ≡ 0 → (found ≡ true → Same A Y) → (found ≡ false → Same A Y → ⊥)
-        → ((i : ℕ) → get_or masks i 0 ≡ 0)
-        → FirstLine permitted A Y k m found masks
+    pub leaf_found : (k m : ℕ) (masks : List ℕ) → k ≡ 0 → Same A Y → ((i : ℕ) → get_or masks i 0 ≡ 0) → Line permitted A Y k m masks
     unfolding chosen
-    at_leaf zero m found masks z f g past = record {
-      sound = λ e. record { stages = tt; rising = tt; sum = same_trans (f e) (same_sym sum_origin) };
-      first = λ e ns l c. none_smaller ns;
-      none = λ e ns l c. g e (same_trans (c_sum ns l c.sum) sum_origin);
+    leaf_found zero m masks z f past = record {
+      sound = record { stages = tt; rising = tt; sum = same_trans f (same_sym sum_origin) };
+      first = λ ns l c. none_smaller ns;
       past = λ i l. past i;
     }
       where
         none_smaller : (ns : List ℕ) → T (not (smaller ns []))
         none_smaller [] = tt
         none_smaller (n ∷ ns) = tt
+    leaf_found (suc k) m masks z f past = absurd (omega arith)
 
-        c_sum : (ns : List ℕ) → length ns ≡ 0 → Same A (Sum Y (AtSum ns)) → Same A (Sum Y (AtSum []))
-        c_sum [] l s = s
-        c_sum (n ∷ ns) l s = absurd (let q : suc (length ns) ≡ 0 = l in omega arith)
-    at_leaf (suc k) m found masks z f g past = absurd (omega arith)
+    pub leaf_none : (k m : ℕ) → k ≡ 0 → (Same A Y → ⊥) → (ns : List ℕ) → length ns ≡ k → Completes permitted A Y m ns → ⊥
+    leaf_none k m z g [] l c = g (same_trans c.sum sum_origin)
+    leaf_none k m z g (n ∷ ns) l c = absurd (let q : suc (length ns) ≡ k = l in omega arith)
 
     -- ---- the masks in turn
 
@@ -107,25 +104,17 @@ module _ (permitted : ℕ → Bool) where
               (eq-or-lt_of_le h.0)
 
       -- the first list from i on is the first from m on
-      pub passed_found : (i : ℕ) (masks : List ℕ) → Narrowed permitted A Y k m i → FirstLine permitted A Y k i true masks
-          → FirstLine permitted A Y k m true masks
+      pub passed_found : (i : ℕ) (masks : List ℕ) → Narrowed permitted A Y k m i → Line permitted A Y k i masks → Line permitted A Y k m masks
       passed_found i masks P a = record {
-        sound = λ e. lower m i (chosen masks k) P.from (a.sound e);
-        first = λ e ns l c. a.first e ns l (P.later ns l c);
-        none = λ e. absurd (true≢false e);
+        sound = lower m i (chosen masks k) P.from a.sound;
+        first = λ ns l c. a.first ns l (P.later ns l c);
         past = a.past;
       }
 
       -- no mask is left
-      pub passed_all : (i : ℕ) (masks : List ℕ) → ((n : ℕ) → T (permitted n) → T (stage n)) → Narrowed permitted A Y k m i → 512 ≤ i
-          → ((j : ℕ) → get_or masks j 0 ≡ 0)
-          → FirstLine permitted A Y k m false masks
-      passed_all i masks st P q past = record {
-        sound = λ e. absurd (false≢true e);
-        first = λ e. absurd (false≢true e);
-        none = λ e ns l c. go ns l (P.later ns l c);
-        past = λ j l. past j;
-      }
+      pub passed_all : (i : ℕ) → ((n : ℕ) → T (permitted n) → T (stage n)) → Narrowed permitted A Y k m i → 512 ≤ i
+          → (ns : List ℕ) → length ns ≡ k → Completes permitted A Y m ns → ⊥
+      passed_all i st P q ns l c = go ns l (P.later ns l c)
         where
           go : (ns : List ℕ) → length ns ≡ k → Completes permitted A Y i ns → ⊥
           go [] l c = let r : 0 ≡ k = l in omega arith
@@ -134,8 +123,8 @@ module _ (permitted : ℕ → Bool) where
     -- ---- a stage put before what completes the sum below it
 
     module _ (k m : ℕ) (p : 0 < k) (pm : T (permitted m)) (Z : Cells) (z : Same Z (Sum Y (AtMask m))) where
-      pub none_with : (masks : List ℕ) → FirstLine permitted A Z (k - 1) m false masks → NoneFirst permitted A Y k m
-      none_with masks a ns l c = a.none refl ns l (completes_same m ns (same_sym z) c)
+      pub none_with : ((ns : List ℕ) → length ns ≡ k - 1 → Completes permitted A Z m ns → ⊥) → NoneFirst permitted A Y k m
+      none_with a ns l c = a ns l (completes_same m ns (same_sym z) c)
 
       not_smaller : (ns : List ℕ) (L : List ℕ) → length ns ≡ k → Completes permitted A Y m ns
           → ((ms : List ℕ) → length ms ≡ k - 1 → Completes permitted A Z m ms → T (not (smaller ms L))) → T (not (smaller ns (m ∷ L)))
@@ -152,40 +141,38 @@ module _ (permitted : ℕ → Bool) where
                 clash (smaller ns L) (f ns r (completes_same m ns (same_sym z) (subst (λ n. Completes permitted A (Sum Y (AtMask n)) n ns) e h.2))) u.1),
           )
 
-      pub put_first : (masks : List ℕ) → k ≤ length masks → FirstLine permitted A Z (k - 1) m true masks → FirstLine permitted A Y k m true
-          (set masks (k - 1) m)
+      pub put_first : (masks : List ℕ) → k ≤ length masks → Line permitted A Z (k - 1) m masks → Line permitted A Y k m (set masks (k - 1) m)
       put_first masks room a =
           let e = chosen_set masks k m p room in
           record {
-            sound = λ f. subst (Completes permitted A Y m) (sym e) (behind m (chosen masks (k - 1)) pm
-                (completes_same m (chosen masks (k - 1)) z (a.sound refl)));
-            first = λ f ns l c. subst (λ L. T (not (smaller ns L))) (sym e) (not_smaller ns (chosen masks (k - 1)) l c (a.first refl));
-            none = λ f. absurd (true≢false f);
+            sound = subst (Completes permitted A Y m) (sym e) (behind m (chosen masks (k - 1)) pm (completes_same m (chosen masks (k - 1)) z a.sound));
+            first = λ ns l c. subst (λ L. T (not (smaller ns L))) (sym e) (not_smaller ns (chosen masks (k - 1)) l c a.first);
             past = λ i l. get_or-set_other masks (k - 1) i m 0 (λ q. omega arith) ∙ a.past i (omega arith);
           }
 
 -- what the partial sum below says of that above it
-module _ (permitted : ℕ → Bool) (nums cand : List ℕ) (here : Here) (k m : ℕ) (r : Child) (b : Led nums cand here (k - 1) m r) where
+module _ (permitted : ℕ → Bool) (nums cand : List ℕ) (here : Here) (k m : ℕ) where
   abbrev Y : Cells
   Y = partial_sum here
 
   -- no list has m first
-  pub below_none : r.ok ≡ false → Roomy cand here.len (k - 1) → Ready permitted nums here → Allowed permitted cand
+  pub below_none : Ended nums cand here (k - 1) m → Roomy cand here.len (k - 1) → Ready permitted nums here → Allowed permitted cand
       → ((s : ℕ) → T (permitted s) → Among cand (length cand) s)
       → T (permitted m) → NoneFirst permitted (aim_of here) Y k m
-  below_none e room s a every pm ns l c = b.no e room permitted s a every pm ns l c.stages c.sum
+  below_none b room s a every pm ns l c = b.no room permitted s a every pm ns l c.stages c.sum
 
-  module _ (e : r.ok ≡ true) (p : 0 < k) (pm : T (permitted m)) (found : Bool) (masks : List ℕ)
-      (a : FirstLine permitted (aim_of r.here) (partial_sum r.here) (k - 1) m found masks) where
-    above : FirstLine permitted (aim_of here) (Sum (AtMask m) Y) (k - 1) m found masks
-    above = subst (λ (ms : List ℕ). FirstLine permitted (aim_of here) (AtSum ms) (k - 1) m found masks) (b.below.longer e).0
-        (subst (λ (l : List ℕ). FirstLine permitted (At l) (partial_sum r.here) (k - 1) m found masks) (b.below.same e) a)
+  module _ (r : Here) (b : Below nums here m r) (p : 0 < k) (pm : T (permitted m)) (o : Option (List ℕ))
+      (a : FirstLine permitted (aim_of r) (partial_sum r) (k - 1) m o) where
+    above : FirstLine permitted (aim_of here) (Sum (AtMask m) Y) (k - 1) m o
+    above = subst (λ (ms : List ℕ). FirstLine permitted (aim_of here) (AtSum ms) (k - 1) m o) b.longer.0
+        (subst (λ (l : List ℕ). FirstLine permitted (At l) (partial_sum r) (k - 1) m o) b.same a)
 
-    pub below_closed : found ≡ false → NoneFirst permitted (aim_of here) Y k m
-    below_closed f = none_with permitted (aim_of here) Y k m p pm (Sum (AtMask m) Y) sum_comm masks
-        (subst (λ (d : Bool). FirstLine permitted (aim_of here) (Sum (AtMask m) Y) (k - 1) m d masks) f above)
+  pub below_closed : (r : Here) → Below nums here m r → 0 < k → T (permitted m)
+      → FirstLine permitted (aim_of r) (partial_sum r) (k - 1) m None → NoneFirst permitted (aim_of here) Y k m
+  below_closed r b p pm a = none_with permitted (aim_of here) Y k m p pm (Sum (AtMask m) Y) sum_comm (above r b p pm None a)
 
-    pub below_found : found ≡ true → k ≤ length masks → FirstLine permitted (aim_of here) Y k m true (set masks (k - 1) m)
-    below_found f room =
-        put_first permitted (aim_of here) Y k m p pm (Sum (AtMask m) Y) sum_comm masks room
-        (subst (λ (d : Bool). FirstLine permitted (aim_of here) (Sum (AtMask m) Y) (k - 1) m d masks) f above)
+  pub below_found : (r : Here) → Below nums here m r → 0 < k → T (permitted m) → (masks : List ℕ)
+      → FirstLine permitted (aim_of r) (partial_sum r) (k - 1) m (Some masks) → k ≤ length masks
+      → Line permitted (aim_of here) Y k m (set masks (k - 1) m)
+  below_found r b p pm masks a room =
+      put_first permitted (aim_of here) Y k m p pm (Sum (AtMask m) Y) sum_comm masks room (above r b p pm (Some masks) a)

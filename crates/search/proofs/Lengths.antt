@@ -1,13 +1,14 @@
 -- From the origin: the partial sum that the search starts from, and what the answers for each number of stages say together.
-use mathlib.Core.Path.{◌≡◌, refl, sym, subst, ◌∙◌}
-use mathlib.Core.Bool.{Bool, true, false, not, true≢false, false≢true}
+use mathlib.Core.Path.{◌≡◌, sym, subst, ◌∙◌}
+use mathlib.Core.Bool.{Bool, true, false, not}
 use mathlib.Core.Logic.{⊎_elim}
 use mathlib.Core.List.{List, [], ◌∷◌}
 use Prim.Native.Nat.{ℕ, ◌+◌, ◌*◌, ◌/◌, ◌≤◌, ◌<◌, max, zero-le}
 use native.Mathlib.Nat.{eq-or-lt_of_le}
 use native.Mathlib.Omega.{arith}
 use lib.Dec.{T, ltb}
-use lib.ListN.{length, replicate}
+use lib.ListN.{length}
+use Rattle.std.specs.Prelude.{None}
 use Rattle.plane.specs.Lists.{all}
 use Rattle.plane.proofs.Member.{all_In, In-all}
 use Rattle.plane.proofs.Tests.{not_or, not_ltb, lt_or_le}
@@ -18,10 +19,10 @@ use Rattle.masks.proofs.Order.{not_before_tied}
 use Rattle.masks.proofs.Reduce.{in_order}
 use Rattle.stage_steps.specs.Reach.{reach}
 use Rattle.rows.specs.Cells.{Cells, Same, Sum, At, AtOrigin, chosen}
-use Rattle.rows.proofs.Sums.{Rows16, in_x, in_y, zero_at}
+use Rattle.rows.proofs.Sums.{Rows16, in_x, in_y}
 use Rattle.extents.specs.Extents.{Greatest, NoCell, row, column}
-use Rattle.search.specs.Plans.{SumsTo, Shortest}
-use Rattle.search.specs.Tree.{Completes, FirstLine, tries, Candidates}
+use Rattle.search.specs.Plans.{SumsTo, Plan, Shortest}
+use Rattle.search.specs.Tree.{Completes, Line, FirstLine, tries, Candidates}
 use Rattle.rows.proofs.Addition.{same_sym, same_trans, sum_comm, sum_origin, sum_cells_same}
 use Rattle.rows.proofs.Chosen.{length_chosen}
 use Rattle.search.proofs.Marking.{tried_permitted, all_tried}
@@ -65,8 +66,7 @@ module _ (permitted : ℕ → Bool) (sub : (m : ℕ) → T (permitted m) → T (
   none_short A w h k e f q ns S t l = let b = (counts A w h e f ns S).0 in omega arith
 
   -- the answers for each number of stages together
-  module _ (A : Cells) (marks : List ℕ) (M : Candidates permitted A 512 marks) (k : ℕ) (below : NoneBelow A k)
-      (found : Bool) (masks : List ℕ) (a : FirstLine (tries marks) A AtOrigin k 0 found masks) where
+  module _ (A : Cells) (marks : List ℕ) (M : Candidates permitted A 512 marks) (k : ℕ) (below : NoneBelow A k) where
     -- what sums to A completes the cell (0, 0) to A, with stages that are tried
     completes : (ns : List ℕ) → SumsTo permitted A ns → T (not (falling ns)) → Completes (tries marks) A AtOrigin 0 ns
     completes ns S t = record { stages = all_tried permitted A sub marks M ns S; rising = zero_first ns t; sum = same_trans S.sum (same_sym from_origin) }
@@ -75,12 +75,12 @@ module _ (permitted : ℕ → Bool) (sub : (m : ℕ) → T (permitted m) → T (
         zero_first [] t = tt
         zero_first (n ∷ ns) t = (not_or (ltb n 0) (falling (n ∷ ns))).1 (not_ltb n 0 zero-le, t)
 
-    pub none_more : found ≡ false → NoneBelow A (k + 1)
-    none_more e ns S t l = ⊎_elim (λ w. a.none e ns w (completes ns S t)) (λ w. below ns S t w) (eq-or-lt_of_le {n = length ns} {m = k} (omega arith))
+    pub none_more : FirstLine (tries marks) A AtOrigin k 0 None → NoneBelow A (k + 1)
+    none_more a ns S t l = ⊎_elim (λ w. a ns w (completes ns S t)) (λ w. below ns S t w) (eq-or-lt_of_le {n = length ns} {m = k} (omega arith))
 
-    pub found_first : found ≡ true → Shortest permitted A true k masks
-    found_first e = record {
-      some = λ f. record {
+    pub found_first : (masks : List ℕ) → Line (tries marks) A AtOrigin k 0 masks → Plan permitted A (record { n = k; masks = masks })
+    found_first masks a = record {
+      found = record {
         sums = record {
           masks = all_In permitted L (λ m h. tried_permitted permitted A sub marks M m (In-all (tries marks) L c.stages m h));
           sum = same_trans c.sum from_origin;
@@ -89,11 +89,9 @@ module _ (permitted : ℕ → Bool) (sub : (m : ℕ) → T (permitted m) → T (
         first = λ ns S t. ⊎_elim
             (λ w. absurd (below ns S t w))
             (λ w. not_before_tied L ns (subst (λ (n : ℕ). n ≤ length ns) (sym (length_chosen masks k)) w)
-            (λ q. a.first e ns (q ∙ length_chosen masks k) (completes ns S t)))
+            (λ q. a.first ns (q ∙ length_chosen masks k) (completes ns S t)))
             (lt_or_le (length ns) k);
       };
-      none = λ f. absurd (true≢false f);
-      empty = λ f. absurd (true≢false f);
       past = a.past;
     }
       where
@@ -101,7 +99,7 @@ module _ (permitted : ℕ → Bool) (sub : (m : ℕ) → T (permitted m) → T (
         L = chosen masks k
 
         c : Completes (tries marks) A AtOrigin 0 L
-        c = a.sound e
+        c = a.sound
 
         sorted_of : (ns : List ℕ) → T (not (falling (0 ∷ ns))) → T (not (falling ns))
         sorted_of [] t = tt
@@ -109,18 +107,15 @@ module _ (permitted : ℕ → Bool) (sub : (m : ℕ) → T (permitted m) → T (
 
   -- ---- no list of any length and order
 
-  pub none_any : (A : Cells) → ((ns : List ℕ) → SumsTo permitted A ns → ⊥) → Shortest permitted A false 0 (replicate 32 0)
-  none_any A f = record { some = λ e. absurd (false≢true e); none = λ e. f; empty = λ e. refl; past = λ i l. zero_at 32 i }
-
-  pub none_found : (A : Cells) (w h k : ℕ) → Greatest column A w → Greatest row A h → NoneBelow A k → w + h < k → Shortest permitted A false 0 (replicate 32 0)
-  none_found A w h k e f below l = none_any A (λ ns S.
+  pub none_found : (A : Cells) (w h k : ℕ) → Greatest column A w → Greatest row A h → NoneBelow A k → w + h < k → Shortest permitted A None
+  none_found A w h k e f below l ns S =
       let o = in_order permitted ns S.masks in
       let R : SumsTo permitted A o.masks = record { masks = o.allowed; sum = same_trans S.sum (sum_cells_same ns o.masks o.sum) } in
-      below o.masks R o.sorted (omega (arith, (counts A w h e f o.masks R).1)))
+      below o.masks R o.sorted (omega (arith, (counts A w h e f o.masks R).1))
 
   -- a sum of stages has a cell
-  pub none_empty : (A : Cells) → NoCell A → Shortest permitted A false 0 (replicate 32 0)
-  none_empty A N = none_any A (λ ns S. let g = sum_reach false ns (stages_of ns S) in N.no g.x g.y (S.sum.from g.x g.y g.cell))
+  pub none_empty : (A : Cells) → NoCell A → Shortest permitted A None
+  none_empty A N ns S = let g = sum_reach false ns (stages_of ns S) in N.no g.x g.y (S.sum.from g.x g.y g.cell)
 
   -- each stage adds at least 1 to the extents together, and neither is above 15: no plan of cells of the window has more than 30 stages
   pub at_most_30 : (A : List ℕ) → Rows16 A → (ms : List ℕ) → SumsTo permitted (At A) ms → length ms ≤ 30

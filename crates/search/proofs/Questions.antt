@@ -1,11 +1,12 @@
 -- The quick search is asked with the numbers of the marked masks and of the cells; where it says no, no stages sum to the cells.
 use mathlib.Core.Path.{◌≡◌, refl, subst}
-use mathlib.Core.Bool.{true, false, false≢true}
+use mathlib.Core.Bool.{true, false}
+use Rattle.std.specs.Prelude.{None}
 use mathlib.Core.List.{List}
 use Prim.Native.Nat.{ℕ, ◌+◌, ◌≤◌, ◌<◌}
 use native.Mathlib.Omega.{arith}
 use lib.Dec.{T}
-use lib.ListN.{length, take, replicate, length-take}
+use lib.ListN.{length, take, length-take}
 use Rattle.plane.specs.Lists.{all}
 use Rattle.plane.proofs.Member.{In-all}
 use Rattle.masks.specs.Mask.{mask_cells, stage}
@@ -15,7 +16,7 @@ use Rattle.stage_steps.proofs.Stages.{reach_some}
 use Rattle.rows.proofs.Bridge.{mask_cells_lem}
 use Rattle.rows.specs.Cells.{Same, At, AtMask, AtOrigin, AtSum, chosen}
 use Rattle.rows.proofs.Addition.{same_sym, same_trans, to_cell}
-use Rattle.rows.proofs.Sums.{Rows16, in_y, zero_at}
+use Rattle.rows.proofs.Sums.{Rows16, in_y}
 use Rattle.extents.specs.Extents.{Greatest, row, column}
 use Rattle.edges.specs.Edges.{plus_x, plus_y, minus_x, minus_y, first_direction, second_direction, times_of, Number}
 use Rattle.edges.specs.Numbers.{Front, Numbered}
@@ -27,7 +28,7 @@ use Rattle.completions.proofs.Nodes.{to_part, of_part}
 use Rattle.search.specs.Plans.{Shortest}
 use Rattle.search.specs.Tree.{FirstLine, Candidates, tries}
 use Rattle.search.specs.Asking.{Drawn, Tabled, Questioned, Underway}
-use Rattle.search.proofs.Lengths.{from_origin, counts, none_any}
+use Rattle.search.proofs.Lengths.{from_origin, counts}
 use Rattle.search.proofs.Marking.{tried_permitted, marks_of, all_tried}
 use Rattle.search.proofs.Reaches.{mask_reach}
 
@@ -135,13 +136,8 @@ module _ (marks cells need nums cand : List ℕ) (q : Questioned marks cells nee
       (λ m h. q.pool.all m (In-all (tries marks) ns t m h)) l
 
   -- so for k stages the answer is that there is none
-  pub no_answer : FirstLine (tries marks) (At cells) AtOrigin k 0 false (replicate 32 0)
-  no_answer = record {
-    sound = λ e. absurd (false≢true e);
-    first = λ e. absurd (false≢true e);
-    none = λ e ns l c. no_marked ns c.stages (same_trans c.sum from_origin) (omega arith);
-    past = λ i l. zero_at 32 i;
-  }
+  pub no_answer : FirstLine (tries marks) (At cells) AtOrigin k 0 None
+  no_answer ns l c = no_marked ns c.stages (same_trans c.sum from_origin) (omega arith)
 
 -- what the search starts from
 pub start_kept : (marks cells need nums cand : List ℕ) → Questioned marks cells need nums cand → (k : ℕ) (path : List ℕ) → k ≤ 30
@@ -152,7 +148,7 @@ start_kept marks cells need nums cand q k path l = record { pool = q.pool; room 
 -- where w + h or fewer do not, none do
 pub no_plan : (marks cells need nums cand : List ℕ) → Candidates stage (At cells) 512 marks → Questioned marks cells need nums cand → (w h : ℕ)
     → Greatest column (At cells) w → Greatest row (At cells) h
-    → NoSum cells need nums cand (w + h) → Shortest stage (At cells) false 0 (replicate 32 0)
-no_plan marks cells need nums cand M q w h e f none = none_any stage (λ m t. t) (At cells) (λ ns S.
+    → NoSum cells need nums cand (w + h) → Shortest stage (At cells) None
+no_plan marks cells need nums cand M q w h e f none ns S =
     no_marked marks cells need nums cand q (w + h) none ns (all_tried stage (At cells) (λ m t. t) marks M ns S) S.sum
-    (counts stage (λ m t. t) (At cells) w h e f ns S).1)
+    (counts stage (λ m t. t) (At cells) w h e f ns S).1

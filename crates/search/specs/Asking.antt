@@ -1,11 +1,10 @@
 -- What the quick search is asked with: the marked masks as a list, and a table with the numbers of each; and what a partial sum keeps for it on the way down.
-use Rattle.std.specs.Prelude.{◌≡◌, Bool, false, List, ℕ, ◌+◌, ◌≤◌, ◌<◌, T, length, get_or}
+use Rattle.std.specs.Prelude.{◌≡◌, Bool, List, ℕ, ◌+◌, ◌≤◌, ◌<◌, T, length, get_or, Option, MatchOption}
 use Rattle.plane.specs.Lists.{all}
 use Rattle.masks.specs.Mask.{stage}
 use Rattle.rows.specs.Cells.{Same, Sum, At, AtMask, AtOrigin, AtSum}
 use Rattle.edges.specs.Edges.{Number}
 use Rattle.completions.specs.declared.Here.{Here}
-use Rattle.completions.specs.declared.Child.{Child}
 use Rattle.completions.specs.Completing.{Among, number_in, Masks, Open, aim_of, partial_sum, Ready, Below, Allowed}
 use Rattle.completions.specs.Opening.{Roomy}
 use Rattle.search.specs.declared.Pool.{Pool}
@@ -54,9 +53,12 @@ pub record Underway (marks nums cand : List ℕ) (here : Here) (k : ℕ) : Type 
   pub room : here.len + k ≤ 30
   pub state : Ready (tries marks) nums here
 
--- the partial sum below by the stage m, with j stages after it, or that no j permitted masks lead on from there
-pub record Led (nums cand : List ℕ) (here : Here) (j m : ℕ) (r : Child) : Type 0 where
-  pub below : Below nums here m r
-  pub no : r.ok ≡ false → Roomy cand here.len j → (permitted : ℕ → Bool) → Ready permitted nums here → Allowed permitted cand
+-- no j permitted masks lead on from the sum with the stage m
+pub record Ended (nums cand : List ℕ) (here : Here) (j m : ℕ) : Type 0 where
+  pub no : Roomy cand here.len j → (permitted : ℕ → Bool) → Ready permitted nums here → Allowed permitted cand
       → ((s : ℕ) → T (permitted s) → Among cand (length cand) s) → T (permitted m)
       → (ns : List ℕ) → length ns ≡ j → T (all permitted ns) → Same (aim_of here) (Sum (Sum (partial_sum here) (AtMask m)) (AtSum ns)) → ⊥
+
+-- the partial sum below by the stage m, with j stages after it, or that no j permitted masks lead on from there
+abbrev pub Led : List ℕ → List ℕ → Here → ℕ → ℕ → Option Here → Type 0
+Led nums cand here j m r = MatchOption r (Ended nums cand here j m) (Below nums here m)

@@ -1,5 +1,5 @@
 -- Document 01, "Shortest plan": the tree that the search goes down. A partial sum Y tries each stage, and each stage tried opens the sum below it.
-use Rattle.std.specs.Prelude.{◌≡◌, Bool, true, false, not, List, ◌∷◌, ℕ, ◌-◌, ◌≤◌, ◌<◌, T, eqb, get_or, length}
+use Rattle.std.specs.Prelude.{◌≡◌, Bool, not, List, ◌∷◌, ℕ, ◌-◌, ◌≤◌, ◌<◌, T, eqb, get_or, length, Option, MatchOption}
 use Rattle.plane.specs.Lists.{all, In}
 use Rattle.masks.specs.Chain.{falling, smaller}
 use Rattle.masks.specs.Mask.{stage}
@@ -12,12 +12,15 @@ pub record Completes (permitted : ℕ → Bool) (A Y : Cells) (m : ℕ) (ms : Li
   pub rising : T (not (falling (m ∷ ms)))
   pub sum : Same A (Sum Y (AtSum ms))
 
--- the answer for k stages, none below m: the first of the lists that complete Y to A, or that there is none
-pub record FirstLine (permitted : ℕ → Bool) (A Y : Cells) (k m : ℕ) (found : Bool) (masks : List ℕ) : Type 0 where
-  pub sound : found ≡ true → Completes permitted A Y m (chosen masks k)
-  pub first : found ≡ true → (ns : List ℕ) → length ns ≡ k → Completes permitted A Y m ns → T (not (smaller ns (chosen masks k)))
-  pub none : found ≡ false → (ns : List ℕ) → length ns ≡ k → Completes permitted A Y m ns → ⊥
+-- the first of the lists of k stages, none below m, that complete Y to A, as an array has it, which is 0 past the stages
+pub record Line (permitted : ℕ → Bool) (A Y : Cells) (k m : ℕ) (masks : List ℕ) : Type 0 where
+  pub sound : Completes permitted A Y m (chosen masks k)
+  pub first : (ns : List ℕ) → length ns ≡ k → Completes permitted A Y m ns → T (not (smaller ns (chosen masks k)))
   pub past : (i : ℕ) → k ≤ i → get_or masks i 0 ≡ 0
+
+-- the answer for k stages, none below m: that list, or that there is none
+abbrev pub FirstLine : (ℕ → Bool) → Cells → Cells → ℕ → ℕ → Option (List ℕ) → Type 0
+FirstLine permitted A Y k m r = MatchOption r ((ns : List ℕ) → length ns ≡ k → Completes permitted A Y m ns → ⊥) (Line permitted A Y k m)
 
 -- no k stages with m first, none below it, complete Y to A
 abbrev pub NoneFirst : (ℕ → Bool) → Cells → Cells → ℕ → ℕ → Type 0

@@ -10,3 +10,10 @@ pub struct Pool {
     pub n: usize,
     pub nums: [u8; 9216],
 }
+
+// The n stages of the plan that is picked, the first at n − 1.
+#[derive(Clone, Copy)]
+pub struct Chosen {
+    pub n: usize,
+    pub masks: [u16; 32],
+}

@@ -1,40 +1,21 @@
--- The bounds, the step and the question, each with its law.
-use Rattle.completions.proofs.Opening.{opened_outside, opened_passed, opened_none, opened_yes}
-use native.Mathlib.Omega.{arith}
-use borrow.Author.Tests.{not-true, not-false}
+-- The step, and the question below it.
+use mathlib.Core.Path.{◌≡◌, refl}
+use mathlib.Core.Bool.{Bool, true, false}
+use Rattle.std.specs.Prelude.{MatchOption}
+use Rattle.std.specs.Bool.{then_some}
+use Rattle.completions.specs.declared.Here.{Here}
+use Rattle.completions.proofs.Opening.{shut_none}
 use Rattle.completion_steps.proofs.opened.Goals as goal
 
-pub returns-then-not-roomy : goal.returns-then-not-roomy
-returns-then-not-roomy c =
-    let st = c in
-    let h = st.args.here in
-    opened_outside st.args.nums.now st.args.cand.now h st.args.m st.args.k
-    (λ r. c.roomy.ensures.no (c.if-not-roomy.true) r.list r.path)
-
-pub returns-then-not-c : goal.returns-then-not-c
-returns-then-not-c c =
-    let st = c in
-    let h = st.args.here in
-    opened_passed st.args.nums.now st.args.cand.now h st.args.m st.args.k _ c.step-c.ensures (not-true _ c.if-not-c.true)
-
-pub node-requires : goal.node-requires
-node-requires c =
-    let room = c.roomy.ensures.yes (c.if-not-roomy.false) in
-    let n = (c.step-c.ensures.below.longer (not-false _ c.if-not-c.false)).1 in
-    (omega (arith, room.1, n), room.0)
-
-pub returns-then-not-node : goal.returns-then-not-node
-returns-then-not-node c =
-    let st = c in
-    let h = st.args.here in
-    opened_none st.args.nums.now st.args.cand.now h st.args.m st.args.k _ c.step-c.ensures
-    (not-false _ c.if-not-c.false) (c.node.ensures (c.if-not-node.true))
+-- a value that is kept where r is true
+kept : (r : Bool) (P : Type 0) (Q : Here → Type 0) (b : Here) → (r ≡ false → P) → Q b → MatchOption (then_some r b) P Q
+kept false P Q b f q = f refl
+kept true P Q b f q = q
 
 pub returns : goal.returns
 returns c =
-    let st = c in
-    let h = st.args.here in
-    let room = c.roomy.ensures.yes
-    (c.if-not-roomy.false) in
-    opened_yes st.args.nums.now st.args.cand.now h st.args.m st.args.k _ c.step-c.ensures
-    (not-false _ c.if-not-c.false) (record { list = room.0; path = room.1 })
+    let a = c.args in
+    let room = c.roomy.ensures.0 c.if-not-roomy.false in
+    rw c.then_some.ensures (kept c.node.result _ _ _
+    (λ e. shut_none a.nums.now a.cand.now a.here a.m a.k _ c.in_ok-below.ensures.1 (c.node.ensures e))
+    (record { list = room.0; path = room.1 }, c.in_ok-below.ensures.1))

@@ -2,12 +2,10 @@
 use native.Mathlib.Omega.{arith}
 use Rattle.elements.proofs.Made.{made_far}
 use Rattle.elements.proofs.Summing.{not_low_x, not_low_y, fits_in, summed_near, summed_far}
-use Rattle.extents.proofs.Search.{last_at}
-use Rattle.rows.specs.Cells.{At}
 use Rattle.rows.proofs.Known.{rows16}
 use Rattle.elements.proofs.Stands.{some, sound_cell}
-use Rattle.extents.specs.Extents.{row, column}
 use Rattle.elements.proofs.sum.Goals as goal
+use Rattle.elements.proofs.sum.Goals.{then-x-lt15-via-then-x-lt15, then-x-lt15-via-else-x-lt15+then-y-lt15, then-x-lt15-via-else-x-lt15+else-y-lt15+then-not-within}
 
 pub overflow_add-x : goal.overflow_add-x
 overflow_add-x c =
@@ -42,61 +40,39 @@ returns-then-x-lt15 c =
     let wa = rows16 a.rows _ c.well_formed.0.1.1.1.1.1.0 in
     let wb = rows16 b.rows _ c.well_formed.1.0.1.1.1.1.1.0 in
     let S = c.requires in
-    made_far _ _ _ (not_low_x a b wa wb S.0 S.1 c.if-x-lt15.true) c.nothing.ensures
+    let s = c.in-Some-Some in
+    made_far _ _ _ (elim c.then-x-lt15.branch [
+      | then-x-lt15-via-then-x-lt15 w ↦ not_low_x a b wa wb S.0 S.1 w.if-x-lt15.true
+      | then-x-lt15-via-else-x-lt15+then-y-lt15 w ↦ not_low_y a b wa wb S.0 S.1 w.if-y-lt15.true
+      | then-x-lt15-via-else-x-lt15+else-y-lt15+then-not-within w ↦
+          λ t. w.within.ensures.no w.if-not-within.true (some S.0.top)
+          (fits_in a b wa wb S.0 S.1 w.if-x-lt15.false w.if-y-lt15.false s.i s.j s.ensures s.ensures' t)
+    ]) c.nothing-then-x-lt15.ensures
 
-pub returns-then-y-lt15 : goal.returns-then-y-lt15
-returns-then-y-lt15 c =
+pub returns-then-within : goal.returns-then-within
+returns-then-within c =
     let a = c.args.a in
     let b = c.args.b in
     let wa = rows16 a.rows _ c.well_formed.0.1.1.1.1.1.0 in
     let wb = rows16 b.rows _ c.well_formed.1.0.1.1.1.1.1.0 in
     let S = c.requires in
-    made_far _ _ _ (not_low_y a b wa wb S.0 S.1 c.if-y-lt15.true) c.nothing-then-y-lt15.ensures
-
-pub returns-then-not-within : goal.returns-then-not-within
-returns-then-not-within c =
-    let a = c.args.a in
-    let b = c.args.b in
-    let wa = rows16 a.rows _ c.well_formed.0.1.1.1.1.1.0 in
-    let wb = rows16 b.rows _ c.well_formed.1.0.1.1.1.1.1.0 in
-    let S = c.requires in
-    let k = c.last_column in
-    let l = c.last_row in
-    let C = last_at column (At b.rows) k.result k.ensures (some S.1.top) in
-    let R = last_at row (At b.rows) l.result l.ensures (some S.1.top) in
-    made_far _ _ _ (λ t. c.within.ensures.no (c.if-not-within.true) (some S.0.top)
-    (fits_in a b wa wb S.0 S.1 c.if-x-lt15.false c.if-y-lt15.false k.result l.result C R t)) c.nothing-then-not-within.ensures
-
-pub returns-then-not-within-2 : goal.returns-then-not-within-2
-returns-then-not-within-2 c =
-    let a = c.args.a in
-    let b = c.args.b in
-    let wa = rows16 a.rows _ c.well_formed.0.1.1.1.1.1.0 in
-    let wb = rows16 b.rows _ c.well_formed.1.0.1.1.1.1.1.0 in
-    let S = c.requires in
-    let k = c.last_column in
-    let l = c.last_row in
-    let C = last_at column (At b.rows) k.result k.ensures (some S.1.top) in
-    let R = last_at row (At b.rows) l.result l.ensures (some S.1.top) in
-    let r = c.sum_of-r in
+    let s = c.in-Some-Some in
+    let r = c.sum_of-rows in
     let wr = rows16 r.result _ r.type_inv in
-    let W = c.within.ensures.yes (c.if-not-within.false) in
-    summed_far a b wa wb S.0 S.1 c.if-x-lt15.false c.if-y-lt15.false k.result l.result C R r.result wr r.ensures W
-    c.nothing-then-not-within-2.result (c.within-2.ensures.no (c.if-not-within-2.true)) c.nothing-then-not-within-2.ensures
+    let W = c.within.ensures.yes c.if-not-within.false in
+    summed_near a b wa wb S.0 S.1 c.if-x-lt15.false c.if-y-lt15.false s.i s.j s.ensures s.ensures' r.result wr r.ensures W
+    (c.within-2.ensures.yes c.if-within.true)
 
-pub returns : goal.returns
-returns c =
+pub returns-else-within : goal.returns-else-within
+returns-else-within c =
     let a = c.args.a in
     let b = c.args.b in
     let wa = rows16 a.rows _ c.well_formed.0.1.1.1.1.1.0 in
     let wb = rows16 b.rows _ c.well_formed.1.0.1.1.1.1.1.0 in
     let S = c.requires in
-    let k = c.last_column in
-    let l = c.last_row in
-    let C = last_at column (At b.rows) k.result k.ensures (some S.1.top) in
-    let R = last_at row (At b.rows) l.result l.ensures (some S.1.top) in
-    let r = c.sum_of-r in
+    let s = c.in-Some-Some in
+    let r = c.sum_of-rows in
     let wr = rows16 r.result _ r.type_inv in
-    let W = c.within.ensures.yes (c.if-not-within.false) in
-    summed_near a b wa wb S.0 S.1 c.if-x-lt15.false c.if-y-lt15.false k.result l.result C R r.result wr r.ensures W
-    (c.within-2.ensures.yes (c.if-not-within-2.false))
+    let W = c.within.ensures.yes c.if-not-within.false in
+    summed_far a b wa wb S.0 S.1 c.if-x-lt15.false c.if-y-lt15.false s.i s.j s.ensures s.ensures' r.result wr r.ensures W
+    c.nothing-else-within.result (c.within-2.ensures.no c.if-within.false) c.nothing-else-within.ensures

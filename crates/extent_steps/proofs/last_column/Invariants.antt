@@ -1,11 +1,8 @@
--- The invariant: the columns with a cell are before `last`. The measure: `last`.
-use Prim.Native.Nat.{◌≤◌}
-use Rattle.extents.proofs.Search.{AtWord, Below}
+-- The invariant: the columns with a cell are before `last`.
+use Rattle.rows.specs.Cells.{At}
+use Rattle.extents.proofs.Search.{Below}
 use Rattle.extents.specs.Extents.{column}
 use Rattle.extent_steps.proofs.last_column.Given as goal
 
 abbrev pub invariant-loop-last : goal.invariant-loop-last
-invariant-loop-last l = (l.last ≤ 16) × Below column (AtWord l.c) l.last
-
-abbrev pub decreases-loop-last : goal.decreases-loop-last
-decreases-loop-last l = l.last
+invariant-loop-last l = Below column (At l.fn.a) l.last

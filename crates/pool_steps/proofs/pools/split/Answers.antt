@@ -1,27 +1,18 @@
 use Rattle.std.proofs.Common.{refl, ⊎_elim, arith}
 use Rattle.completions.proofs.Loops.{among_more}
-use Rattle.completions.proofs.Drawing.{split_none, split_more, behind_is}
+use Rattle.completions.proofs.Drawing.{split_more, behind_is}
 use Rattle.pool_steps.proofs.pools.split.Goals as goal
 
-pub loop-j-init : goal.loop-j-init
-loop-j-init c = (omega arith, (refl, λ w. split_none _ _ _ _ _ w refl))
-
-pub loop-j-preserved : goal.loop-j-preserved
-loop-j-preserved c =
-    let h = c.loop-j in (
-      omega arith,
-      (
-        omega arith,
-        λ w. split_more _ _ _ h.list h.other h.p h.q h.j _ _ (omega arith) refl c.having-k.ensures.0
-            c.having-k.ensures.1.0 c.having-k.ensures.1.1 (h.invariant.1.1 w),
-      ),
-    )
+pub loop-m-preserved : goal.loop-m-preserved
+loop-m-preserved c =
+    let h = c.loop-m in
+    let f = c.having-k.ensures in
+    (omega arith, λ w. split_more _ _ _ h.list h.other h.p h.q h.m-index _ _ (omega arith) refl f.0 f.1.0 f.1.1 (h.invariant.1 w))
 
 pub returns : goal.returns
 returns c = λ w.
-    let l = c.loop-j in
-    let h = l.invariant.1.1 w in
-    let few = l.invariant.1.0 in
+    let l = c.loop-m in
+    let h = l.invariant.1 w in
     let k = c.appended.ensures h.list_long in
     record {
       all = λ m b a. among_more _ _ _ m (omega arith) (⊎_elim (k.first m) (k.behind m) (h.all m b (among_more _ _ _ m (omega arith) a)));

@@ -1,9 +1,0 @@
--- The measure: the masks left.
-use Rattle.std.proofs.Common.{◌-◌, ◌≤◌}
-use Rattle.pool_steps.proofs.pools.tally.Given as goal
-
-abbrev pub invariant-loop-j : goal.invariant-loop-j
-invariant-loop-j l = l.j ≤ l.n
-
-abbrev pub decreases-loop-j : goal.decreases-loop-j
-decreases-loop-j l = l.n - l.j
