@@ -15,8 +15,7 @@ fn write_plan(x: u32, y: u32, p: Chosen, out: &mut [u32]) -> u32
     requires { (x ≤ 30) × ((y ≤ 30) × ((p.n ≤ 30) × (32 ≤ length out.old))) }
     ensures { WrittenPlan x y (chosen p.masks p.n) out.old result out.new }
 {
-    let n = p.n;
-    let masks = p.masks;
+    let Chosen { n, masks } = p;
     out[0] = 0x3000_0000 + n as u32;
     out[1] = 0x4000_0000 + y * 256 + x;
     for i in 0..n {
@@ -34,9 +33,6 @@ pub fn plan(ws: &[u32], out: &mut [u32]) -> Answer
         return Err(Ground::OutputLength);
     }
     let s = shape_calls::read_shape(ws);
-    let p = search_steps::shortest(s.rows);
-    if !p.found {
-        return Err(Ground::NoChain);
-    }
-    Ok(write_plan(s.x, s.y, p, out))
+    let chosen = search_steps::shortest(s.rows).ok_or(Ground::NoChain)?;
+    Ok(write_plan(s.x, s.y, chosen, out))
 }
