@@ -19,19 +19,14 @@ fn blank() -> Page
 }
 
 // One byte more, where there is room.
-fn with_byte(p: Page, b: u8) -> Page
+fn with_byte(mut p: Page, b: u8) -> Page
     ensures { Added p (b ∷ []) result }
 {
-    let n = p.n;
-    if 288 <= n {
-        return p;
+    if p.n < 288 {
+        p.bytes[p.n] = b;
+        p.n += 1;
     }
-    let mut bytes = p.bytes;
-    bytes[n] = b;
-    Page {
-        n: n + 1,
-        bytes: bytes,
-    }
+    p
 }
 
 // Some bytes more, each in turn.
@@ -39,11 +34,8 @@ fn with_bytes(p: Page, more: &[u8]) -> Page
     ensures { Added p more.now result }
 {
     let mut r = p;
-    let mut i: usize = 0;
-    while i < more.len() {
-        let next = with_byte(r, more[i]);
-        r = next;
-        i += 1;
+    for b in more {
+        r = with_byte(r, *b);
     }
     r
 }
@@ -53,7 +45,7 @@ fn digit(n: u32) -> u8
     ensures { result ≡ Printer·digit (n % 16) }
 {
     let d = (n % 16) as u8;
-    if d < 10 { 48 + d } else { 87 + d }
+    if d < 10 { b'0' + d } else { b'a' + (d - 10) }
 }
 
 // The line of a word, the highest digit first.
@@ -69,7 +61,7 @@ fn line(w: u32) -> [u8; 9]
         digit(w / 256),
         digit(w / 16),
         digit(w),
-        10,
+        b'\n',
     ]
 }
 
@@ -77,23 +69,17 @@ fn line(w: u32) -> [u8; 9]
 fn with_line(p: Page, w: u32) -> Page
     ensures { Added p (word_line w) result }
 {
-    let text = line(w);
-    with_bytes(p, &text)
+    with_bytes(p, &line(w))
 }
 
 // The lines of the first 32 words of a list.
 pub fn words_page(ws: &[u32]) -> Page
     ensures { Holds (word_lines (take 32 ws.now)) result }
 {
+    let first = &ws[..ws.len().min(32)];
     let mut r = blank();
-    let mut i: usize = 0;
-    while i < 32 {
-        if ws.len() <= i {
-            return r;
-        }
-        let next = with_line(r, ws[i]);
-        r = next;
-        i += 1;
+    for w in first {
+        r = with_line(r, *w);
     }
     r
 }
@@ -105,11 +91,9 @@ pub fn refused_page(number: u32) -> Page
     let p = with_bytes(blank(), b"refused ");
     let n = number % 100;
     if n < 10 {
-        let last = [digit(n), 10];
-        return with_bytes(p, &last);
+        return with_bytes(p, &[digit(n), b'\n']);
     }
-    let last = [digit(n / 10), digit(n % 10), 10];
-    with_bytes(p, &last)
+    with_bytes(p, &[digit(n / 10), digit(n % 10), b'\n'])
 }
 
 // The line for input that cannot be read.

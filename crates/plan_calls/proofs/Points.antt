@@ -1,7 +1,7 @@
 -- From the search's answer on cells to what planning promises on points: a shape's points are its cells moved by its place, so lists of stages that sum to
 -- the cells are the plans of the shape, all of them with that one offset.
 use mathlib.Core.Path.{◌≡◌, refl, sym, ◌∙◌, ap, ap₂, subst}
-use mathlib.Core.Bool.{Bool, true, false, not}
+use mathlib.Core.Bool.{not}
 use mathlib.Core.List.{List, ◌∷◌, ◌++◌, map}
 use Prim.Native.Nat.{ℕ, ◌+◌, ◌≤◌}
 use native.Mathlib.Omega.{arith}
@@ -31,7 +31,11 @@ use Rattle.elements.proofs.Windows.{corner_is}
 use Rattle.shape_calls.specs.Steps.{StandsFor}
 use Rattle.rows.proofs.Chosen.{length_chosen}
 use Rattle.search.proofs.Lengths.{at_most_30}
-use Rattle.search.specs.Plans.{SumsTo, Found, Shortest}
+use Rattle.std.specs.Option.{ok_or}
+use Rattle.std.specs.Prelude.{Option, None, Some, Ok, Err}
+use Rattle.words.specs.declared.Ground.{Ground}
+use Rattle.search.specs.Plans.{SumsTo, Found, Plan, Shortest}
+use Rattle.search.specs.declared.Chosen.{Chosen}
 use Rattle.planning.specs.Planning.{PlanWritten, Unplannable}
 use Rattle.planning.proofs.Decided.{picked_fewest}
 use Rattle.plan_calls.specs.Written.{words_of, WrittenPlan}
@@ -104,21 +108,30 @@ module _ (A : List Point) (s : Shape) (W : Rows16 s.rows) (F : StandsFor A s) wh
 
 -- ---- what planning answers
 
-module _ (ws out : List ℕ) (s : Shape) (W : Rows16 s.rows) (F : StandsFor (shape_points ws) s) (found : Bool) (n : ℕ) (masks : List ℕ)
-    (S : Shortest stage (At s.rows) found n masks) where
-  pub unplannable : found ≡ false → (r : Answer) → stated r ≡ refusal 10 → Unplannable ws out r out
-  unplannable e r a = record { none = no_chain (shape_points ws) s W F (S.none e); answer = a; kept = refl }
+module _ (ws out : List ℕ) (s : Shape) (W : Rows16 s.rows) (F : StandsFor (shape_points ws) s) where
+  pub unplannable : ((ms : List ℕ) → SumsTo stage (At s.rows) ms → ⊥) → (r : Answer) → stated r ≡ refusal 10 → Unplannable ws out r out
+  unplannable none r a = record { none = no_chain (shape_points ws) s W F none; answer = a; kept = refl }
 
-  pub few : found ≡ true → n ≤ 30
-  few e = subst (λ k. k ≤ 30) (length_chosen masks n) (at_most_30 stage (λ m t. t) s.rows W (chosen masks n) (S.some e).sums)
+  module _ (c : Chosen) (P : Plan stage (At s.rows) c) where
+    pub few : c.n ≤ 30
+    few = subst (λ k. k ≤ 30) (length_chosen c.masks c.n) (at_most_30 stage (λ m t. t) s.rows W (chosen c.masks c.n) P.found.sums)
 
-  pub written : found ≡ true → (k : ℕ) (out' : List ℕ) (r : Answer) → stated r ≡ result k → WrittenPlan s.x s.y (chosen masks n) out k out'
-      → PlanWritten ws out r out'
-  written e k out' r a w = record {
-    offset = place s;
-    stages = chosen masks n;
-    picked = picked (shape_points ws) s W F (chosen masks n) (S.some e);
-    fewest = fewest (shape_points ws) s W F (chosen masks n) (S.some e);
-    answer = a ∙ ap result w.count;
-    words = w.words ∙ ap (λ l. l ++ drop (length (chosen masks n) + 2) out) (words_are (shape_points ws) s W F (chosen masks n));
-  }
+    pub written : (k : ℕ) (out' : List ℕ) (r : Answer) → stated r ≡ result k → WrittenPlan s.x s.y (chosen c.masks c.n) out k out' → PlanWritten ws out r out'
+    written k out' r a w = record {
+      offset = place s;
+      stages = chosen c.masks c.n;
+      picked = picked (shape_points ws) s W F (chosen c.masks c.n) P.found;
+      fewest = fewest (shape_points ws) s W F (chosen c.masks c.n) P.found;
+      answer = a ∙ ap result w.count;
+      words = w.words ∙ ap (λ l. l ++ drop (length (chosen c.masks c.n) + 2) out) (words_are (shape_points ws) s W F (chosen c.masks c.n));
+    }
+
+-- ---- the search's answer, where none is a refusal
+
+pub answer_found : (A : Cells) (o : Option Chosen) (g : Ground) (c : Chosen) → ok_or o g ≡ Ok c → Shortest stage A o → Plan stage A c
+answer_found A None g c e m = cc
+answer_found A (Some d) g c e m = let same : d ≡ c = cc in subst (Plan stage A) same m
+
+pub answer_none : (A : Cells) (o : Option Chosen) (g h : Ground) → ok_or o g ≡ Err h → Shortest stage A o → ((ms : List ℕ) → SumsTo stage A ms → ⊥) × (h ≡ g)
+answer_none A None g h e m = (m, cc)
+answer_none A (Some d) g h e m = cc

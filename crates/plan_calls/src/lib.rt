@@ -15,14 +15,11 @@ fn write_plan(x: u32, y: u32, p: Chosen, out: &mut [u32]) -> u32
     requires { (x ≤ 30) × ((y ≤ 30) × ((p.n ≤ 30) × (32 ≤ length out.old))) }
     ensures { WrittenPlan x y (chosen p.masks p.n) out.old result out.new }
 {
-    let masks = p.masks;
-    let n = p.n;
+    let Chosen { n, masks } = p;
     out[0] = 0x3000_0000 + n as u32;
     out[1] = 0x4000_0000 + y * 256 + x;
-    let mut i: usize = 0;
-    while i < n {
+    for i in 0..n {
         out[i + 2] = 0x5000_0000 + masks[n - 1 - i] as u32;
-        i += 1;
     }
     n as u32 + 2
 }
@@ -31,19 +28,11 @@ fn write_plan(x: u32, y: u32, p: Chosen, out: &mut [u32]) -> u32
 pub fn plan(ws: &[u32], out: &mut [u32]) -> Answer
     ensures { Planned ws.now out.old result out.new }
 {
-    let tested = shape_grounds::shape_refusal(ws);
-    if let Answer::Refused(ground) = tested {
-        return Answer::Refused(ground);
-    }
+    shape_grounds::shape_refusal(ws)?;
     if out.len() < 32 {
-        return Answer::Refused(Ground::OutputLength);
+        return Err(Ground::OutputLength);
     }
     let s = shape_calls::read_shape(ws);
-    let cells = s.rows;
-    let p = search_steps::shortest(cells);
-    if !p.found {
-        return Answer::Refused(Ground::NoChain);
-    }
-    let n = write_plan(s.x, s.y, p, out);
-    Answer::Done(n)
+    let chosen = search_steps::shortest(s.rows).ok_or(Ground::NoChain)?;
+    Ok(write_plan(s.x, s.y, chosen, out))
 }

@@ -1,7 +1,9 @@
 -- The page of an answer: the lines of a plan, or of the number of a ground.
 use mathlib.Core.Path.{◌≡◌, refl, sym, ap, ◌∙◌}
 use mathlib.Core.List.{List}
-use Prim.Native.Nat.{ℕ, zero, suc, ◌%◌, ◌≤◌, ◌<◌}
+use Prim.Native.Nat.{ℕ, zero, suc, ◌%◌, ◌≤◌, ◌<◌, min}
+use mathlib.Core.Logic.{⊎_elim}
+use Rattle.plane.proofs.Tests.{lt_or_le}
 use lib.ListN.{length, take, length-take}
 use lib.Seq.{take_all}
 use native.Mathlib.Omega.{arith}
@@ -17,19 +19,17 @@ use Rattle.text.proofs.Pages.{page_text}
 use Rattle.print_calls.specs.Answers.{PageShows}
 
 module _ (a : Answer) (out : List ℕ) (r : Page) where
-  -- a plan of n words, for which a page has room
-  pub shows_part : (n : ℕ) → a ≡ Ok n → n ≤ 32 → Holds (word_lines (take 32 (take n out))) r → PageShows a out (take r.n r.bytes)
-  shows_part n e h H =
-      let l = length-take n out in
-      record { text = page_text _ r H ∙ ap word_lines (take_all 32 (take n out) (omega arith)) ∙ sym (ap (λ b. shown (stated b) out) e) }
-
-  -- an output list of 32 words has no more
-  pub shows_whole : (n : ℕ) → a ≡ Ok n → length out ≡ 32 → 32 < n → Holds (word_lines (take 32 out)) r → PageShows a out (take r.n r.bytes)
-  shows_whole n e l h H =
-      record {
-        text = page_text _ r H ∙ ap word_lines (take_all 32 out (omega arith) ∙ sym (take_all n out (omega arith)))
-            ∙ sym (ap (λ b. shown (stated b) out) e);
-      }
+  -- a plan of n words, cut to the output list's 32, for which a page has room
+  pub shows_plan : (n k : ℕ) → a ≡ Ok n → length out ≡ 32 → k ≡ min n 32 → Holds (word_lines (take 32 (take k out))) r → PageShows a out (take r.n r.bytes)
+  shows_plan n k e l m H =
+      let h = length-take k out in
+      record { text = page_text _ r H ∙ ap word_lines (take_all 32 (take k out) (omega arith) ∙ same) ∙ sym (ap (λ b. shown (stated b) out) e) }
+    where
+      same : take k out ≡ take n out
+      same = ⊎_elim
+          (λ (h : n < 32). let q : k ≡ n = omega arith in ap (λ j. take j out) q)
+          (λ (h : 32 ≤ n). take_all k out (omega arith) ∙ sym (take_all n out (omega arith)))
+          (lt_or_le n 32)
 
 -- no ground has the number 0, and all are below 100
 refused_is : (g : Ground) (out : List ℕ) → refused_line (number_of g % 100) ≡ shown (stated (Err g)) out

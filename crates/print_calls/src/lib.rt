@@ -16,14 +16,8 @@ fn shown(answer: Answer, out: [u32; 32]) -> Page
     ensures past { Blank result }
 {
     match answer {
-        Answer::Done(n) => {
-            let k = n as usize;
-            if 32 < k {
-                return page_steps::words_page(&out);
-            }
-            page_steps::words_page(&out[..k])
-        }
-        Answer::Refused(g) => page_steps::refused_page(words::number(g)),
+        Ok(n) => page_steps::words_page(&out[..(n as usize).min(32)]),
+        Err(g) => page_steps::refused_page(u32::from(g)),
     }
 }
 
@@ -34,8 +28,7 @@ fn planned(ws: &[u32]) -> Page
     ensures past { Blank result }
 {
     let mut out = [0u32; 32];
-    let answer = plan_calls::plan(ws, &mut out);
-    shown(answer, out)
+    shown(plan_calls::plan(ws, &mut out), out)
 }
 
 // The page for what was read to the end of the input. A list of more than 18 words is refused as its first 18 are; no reading counts more.
@@ -44,18 +37,10 @@ pub fn page(s: Reading) -> Page
     ensures room { result.n ≤ 288 }
     ensures past { Blank result }
 {
-    if s.bad {
+    if s.bad || s.digits > 0 || s.count > 18 {
         return page_steps::unreadable_page();
     }
-    if 0 < s.digits {
-        return page_steps::unreadable_page();
-    }
-    let words = s.words;
-    let count = s.count;
-    if 18 < count {
-        return page_steps::unreadable_page();
-    }
-    planned(&words[..count])
+    planned(&s.words[..s.count])
 }
 
 // The page for the whole input.

@@ -36,7 +36,7 @@ upper_case : (rest ws : List ℕ) → ¬ Reads (70 ∷ rest) ws
 unfolding lowest
 upper_case rest ws r =
     let d = (next_byte 0 0 70 rest ws (omega arith) r.lines).0 (omega arith) in
-    (digit_none 70 (λ n l e. omega arith) (λ n l k e. omega arith)).none refl d.0 d.1.0 d.1.1
+    digit_none 70 (λ n l e. omega arith) (λ n l k e. omega arith) d.0 d.1.0 d.1.1
 
 -- the page "refused 10"
 ten : Page

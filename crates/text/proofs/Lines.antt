@@ -11,6 +11,7 @@ use lib.Seq.{get_or_at}
 use Rattle.planning.specs.Printer.{digit, word_line, word_lines}
 use Rattle.planning.proofs.Once.{digit_is}
 use Rattle.text.specs.Reader.{lowest, DigitOf}
+use Rattle.std.specs.Prelude.{None}
 
 -- ---- digits
 
@@ -22,16 +23,9 @@ IsDigit b = (n : ℕ) × ((n < 16) × (b ≡ digit n))
 pub digit_no_feed : (n : ℕ) → ¬ (10 ≡ digit n)
 digit_no_feed n e = ⊎_elim (λ p. let f = p.1 in omega arith) (λ p. let f = p.1 in omega arith) (digit_is n)
 
--- a byte that is a digit, and one that is none
-pub digit_some : (b r : ℕ) → r < 16 → b ≡ digit r → DigitOf b r
-digit_some b r h e = record { most = omega arith; some = λ _. e; none = λ z. absurd (omega arith) }
-
-pub digit_none : (b : ℕ) → ((n : ℕ) → n < 10 → b ≡ 48 + n → ⊥) → ((n : ℕ) → 9 < n → n < 16 → b ≡ 87 + n → ⊥) → DigitOf b 16
-digit_none b low high = record {
-  most = omega arith;
-  some = λ h. absurd (omega arith);
-  none = λ _ n h e. ⊎_elim (λ p. low n p.0 (e ∙ p.1)) (λ p. high n p.0 h (e ∙ p.1)) (digit_is n);
-}
+-- a byte that is no digit
+pub digit_none : (b : ℕ) → ((n : ℕ) → n < 10 → b ≡ 48 + n → ⊥) → ((n : ℕ) → 9 < n → n < 16 → b ≡ 87 + n → ⊥) → DigitOf b None
+digit_none b low high n h e = ⊎_elim (λ p. low n p.0 (e ∙ p.1)) (λ p. high n p.0 h (e ∙ p.1)) (digit_is n)
 
 pub digit_low : (n : ℕ) → n < 10 → digit n ≡ 48 + n
 digit_low n h = ⊎_elim (λ p. p.1) (λ p. absurd (let l = p.0 in omega arith)) (digit_is n)

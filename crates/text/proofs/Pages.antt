@@ -2,12 +2,14 @@
 use mathlib.Core.Path.{◌≡◌, sym, ap, ap₂, subst, ◌∙◌}
 use mathlib.Core.Bool.{cond}
 use mathlib.Core.List.{List, [], ◌∷◌, ◌++◌, append_assoc, append-nil}
-use Prim.Native.Nat.{ℕ, zero, suc, ◌+◌, ◌-◌, ◌/◌, ◌%◌, ◌≤◌, ◌<◌}
+use Prim.Native.Nat.{ℕ, zero, suc, ◌+◌, ◌-◌, ◌/◌, ◌%◌, ◌≤◌, ◌<◌, min}
 use native.Mathlib.Numerals.{add-one}
 use native.Mathlib.Omega.{arith}
 use borrow.Author.Tests.{lt-ltb, le-ltb}
 use lib.ListN.{length, take, drop, set, get_or, replicate, length-append}
 use lib.Seq.{set-append_seam, append_snoc, take-append_seam, drop-append_seam, take-suc, take_all, length-take-le}
+use mathlib.Core.Logic.{⊎_elim}
+use Rattle.plane.proofs.Tests.{lt_or_le}
 use Rattle.planning.specs.Printer.{digit, word_line, word_lines, refused_line}
 use Rattle.text.specs.Page.{Holds, Blank, Added}
 use Rattle.text.specs.declared.Page.{Page}
@@ -85,13 +87,16 @@ words_more ws p r i room h H A =
     let lines = ap word_lines next ∙ lines_append (take i ws) (w ∷ []) ∙ ap (λ l. word_lines (take i ws) ++ l) (lines_one w) in
     subst (λ t. Holds t r) (sym lines) (A.held (word_lines (take i ws)) fits H)
 
--- all words have their lines
-pub words_end : (ws : List ℕ) (r : Page) (i : ℕ) → i ≤ 32 → length ws ≤ i → Holds (word_lines (take i ws)) r → Holds (word_lines (take 32 ws)) r
-words_end ws r i h l H = subst (λ t. Holds (word_lines t) r) (take_all i ws l ∙ sym (take_all 32 ws (omega arith))) H
-
--- 32 words have their lines
-pub words_all : (ws : List ℕ) (r : Page) (i : ℕ) → i ≡ 32 → Holds (word_lines (take i ws)) r → Holds (word_lines (take 32 ws)) r
-words_all ws r i e H = subst (λ k. Holds (word_lines (take k ws)) r) e H
+-- at the end of the words up to 32, the first 32 have their lines
+pub words_first : (ws : List ℕ) (r : Page) (m i : ℕ) → m ≡ min (length ws) 32 → length (take m ws) ≤ i → Holds (word_lines (take i (take m ws))) r
+    → Holds (word_lines (take 32 ws)) r
+words_first ws r m i e h H = subst (λ t. Holds (word_lines t) r) (take_all i (take m ws) h ∙ same) H
+  where
+    same : take m ws ≡ take 32 ws
+    same = ⊎_elim
+        (λ (l : length ws < 32). take_all m ws (omega arith) ∙ sym (take_all 32 ws (omega arith)))
+        (λ (l : 32 ≤ length ws). let q : m ≡ 32 = omega arith in ap (λ k. take k ws) q)
+        (lt_or_le (length ws) 32)
 
 -- ---- a page begun blank
 

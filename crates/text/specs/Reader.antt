@@ -1,6 +1,6 @@
 -- Document 01, "Printer": words are read a line each, eight lower-case hexadecimal digits and a line feed. What is known after the bytes `seen`, of which
 -- more may follow. Only the first 18 words are kept: a shape list has at most 17, and ground 1, which is tried first, refuses a longer one.
-use Rattle.std.specs.Prelude.{◌≡◌, true, false, List, [], ◌∷◌, ◌++◌, ℕ, zero, suc, ◌+◌, ◌/◌, ◌%◌, ◌^◌, ◌≤◌, ◌<◌, min, T, ltb, length, take}
+use Rattle.std.specs.Prelude.{◌≡◌, true, false, List, [], ◌∷◌, ◌++◌, ℕ, zero, suc, ◌+◌, ◌/◌, ◌%◌, ◌^◌, ◌≤◌, ◌<◌, min, T, ltb, length, take, Option, MatchOption}
 use Rattle.plane.specs.Lists.{all}
 use Rattle.planning.specs.Printer.{digit, word_lines, Reads}
 use Rattle.text.specs.declared.Reading.{Reading}
@@ -34,8 +34,6 @@ pub record Updated (ws : List ℕ) (i v : ℕ) (r : List ℕ) : Type 0 where
   pub put : i < 18 → take (i + 1) r ≡ take i ws ++ v ∷ []
   pub full : 18 ≤ i → r ≡ ws
 
--- r is the number of the digit b, or 16 where b is none
-pub record DigitOf (b r : ℕ) : Type 0 where
-  pub most : r ≤ 16
-  pub some : r < 16 → b ≡ digit r
-  pub none : r ≡ 16 → (n : ℕ) → n < 16 → ¬ (b ≡ digit n)
+-- r is the number of the digit b; none where b is no digit
+abbrev pub DigitOf : ℕ → Option ℕ → Type 0
+DigitOf b r = MatchOption r ((n : ℕ) → n < 16 → ¬ (b ≡ digit n)) (λ d. (d < 16) × (b ≡ digit d))

@@ -3,7 +3,7 @@
 #![tactic(auto)]
 
 // What has been read: whether some line was bad; how many words, counted to 18, and the words; the digits of the line begun and their value.
-#[derive(Drop)]
+#[derive(Clone, Copy)]
 pub struct Reading {
     pub bad: bool,
     pub count: usize,
@@ -12,8 +12,8 @@ pub struct Reading {
     pub value: u32,
 }
 
-// A page: the text is the first n bytes; 288 is room for 32 lines of nine.
-#[derive(Drop)]
+// A page: the text is the first n bytes; 288 is room for 32 lines of nine. The buffer is fixed, since nothing allocates.
+#[derive(Clone, Copy)]
 pub struct Page {
     pub n: usize,
     pub bytes: [u8; 288],

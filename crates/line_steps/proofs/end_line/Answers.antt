@@ -10,4 +10,4 @@ returns-then-line-ne8 c =
     spoils _ _ 10 c.spoilt.ensures (λ few next. let d = next.0 (omega arith) in digit_no_feed d.0 d.1.1)
 
 pub returns : goal.returns
-returns c = ends_line _ _ refl (omega arith) refl refl c.one_more.ensures c.with_word-kept.ensures
+returns c = ends_line _ _ refl (omega arith) refl refl (omega arith) c.with_word.ensures

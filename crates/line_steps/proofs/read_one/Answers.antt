@@ -7,19 +7,11 @@ use Rattle.line_steps.proofs.read_one.Goals as goal
 pub returns-then-b-eq10 : goal.returns-then-b-eq10
 returns-then-b-eq10 c = rw c.if-b-eq10.true c.end_line.ensures
 
-pub returns-then-d-gt15 : goal.returns-then-d-gt15
-returns-then-d-gt15 c =
-    let k = c in
-    let none = k.digit_of-d.ensures.none (let m = k.digit_of-d.ensures.most in omega arith) in
-    spoils _ _ _ c.spoilt.ensures (no_next _ _ k.if-b-eq10.false none)
+pub returns-in_default : goal.returns-in_default
+returns-in_default c = spoils _ _ _ c.spoilt.ensures (no_next _ _ c.if-b-eq10.false c.in_default.ensures)
 
 pub returns-then-s-gt7 : goal.returns-then-s-gt7
-returns-then-s-gt7 c =
-    let k = c in
-    spoils _ _ _ c.spoilt-then-s-gt7.ensures (λ few next. k.if-b-eq10.false (next.1 (omega arith)))
+returns-then-s-gt7 c = spoils _ _ _ c.spoilt-then-s-gt7.ensures (λ few next. c.if-b-eq10.false (next.1 (omega arith)))
 
 pub returns : goal.returns
-returns c =
-    let e = c in
-    let k = e in
-    goes_on _ _ _ _ refl (omega arith) (omega arith) (k.digit_of-d.ensures.some (omega arith)) refl refl refl refl
+returns c = goes_on _ _ _ _ refl (omega arith) c.in-Some.ensures.0 c.in-Some.ensures.1 refl refl refl refl

@@ -1,11 +1,7 @@
--- The invariant: the bytes before i have been taken in turn. The measure: the bytes left.
-use Prim.Native.Nat.{◌≤◌, ◌-◌}
-use lib.ListN.{length, take}
+-- The invariant: the bytes before this one have been taken in turn.
+use lib.ListN.{take}
 use Rattle.text.specs.Page.{Added}
 use Rattle.page_steps.proofs.with_bytes.Given as goal
 
-abbrev pub invariant-loop-i : goal.invariant-loop-i
-invariant-loop-i l = (l.i ≤ length l.more) × Added l.initial.r (take l.i l.more) l.r
-
-abbrev pub decreases-loop-i : goal.decreases-loop-i
-decreases-loop-i l = length l.more - l.i
+abbrev pub invariant-loop-b : goal.invariant-loop-b
+invariant-loop-b l = Added l.initial.r (take l.b-index l.more) l.r

@@ -10,7 +10,7 @@ loop-i-preserved c =
     let l = c.loop-i in
     let v = 1342177280 + get_or c.args.p.masks (c.args.p.n - 1 - l.i) 0 in
     let e = l.invariant.2.0 in (
-      omega arith,
+      l.invariant.0,
       l.invariant.1,
       (
         length-set l.out (l.i + 2) v ∙ e,

@@ -1,20 +1,15 @@
 -- The number of words of a plan is cut to the output list's; a refusal is its number.
 use native.Mathlib.Omega.{arith}
 use Rattle.text.proofs.Pages.{page_rest}
-use Rattle.print_calls.proofs.Showing.{shows_part, shows_whole, shows_refused}
+use Rattle.print_calls.proofs.Showing.{shows_plan, shows_refused}
 use Rattle.print_calls.proofs.shown.Goals as goal
 
-pub returns-then-k-gt32 : goal.returns-then-k-gt32
-returns-then-k-gt32 c =
+pub returns-in-Ok : goal.returns-in-Ok
+returns-in-Ok c =
     let q = page_rest _ _ c.words_page.ensures in
-    record { text = shows_whole _ _ _ _ c.in-Done.is (omega arith) (omega arith) c.words_page.ensures; room = q.0; past = q.1 }
+    record { text = shows_plan _ _ _ _ _ c.in-Ok.is (omega arith) c.min.ensures c.words_page.ensures; room = q.0; past = q.1 }
 
-pub returns-else-k-gt32 : goal.returns-else-k-gt32
-returns-else-k-gt32 c =
-    let q = page_rest _ _ c.words_page-in-Done.ensures in
-    record { text = shows_part _ _ _ _ c.in-Done.is (omega arith) c.words_page-in-Done.ensures; room = q.0; past = q.1 }
-
-pub returns-in-Refused : goal.returns-in-Refused
-returns-in-Refused c =
+pub returns-in-Err : goal.returns-in-Err
+returns-in-Err c =
     let q = page_rest _ _ c.refused_page.ensures in
-    record { text = shows_refused _ _ _ _ _ c.in-Refused.is c.number.ensures c.refused_page.ensures; room = q.0; past = q.1 }
+    record { text = shows_refused _ _ _ _ _ c.in-Err.is c.from.ensures c.refused_page.ensures; room = q.0; past = q.1 }

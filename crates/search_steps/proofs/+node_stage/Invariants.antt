@@ -3,7 +3,7 @@
 use lib.ListN.{get_or}
 use Rattle.completions.specs.Completing.{aim_of, partial_sum}
 use Rattle.search.specs.Tree.{Narrowed, tries}
-use Prim.Native.Nat.{◌+◌, ◌*◌, ◌-◌, ◌≤◌}
+use Prim.Native.Nat.{◌+◌, ◌*◌, ◌-◌}
 use Rattle.search_steps.proofs.+node_stage.Given as goal
 
 abbrev pub decreases-node : goal.decreases-node
@@ -13,7 +13,4 @@ abbrev pub decreases-stage : goal.decreases-stage
 decreases-stage l = (get_or l.here.need 16 0 + get_or l.here.need 17 0 + (512 - l.m)) * 2
 
 abbrev pub invariant-node-loop-i : goal.invariant-node-loop-i
-invariant-node-loop-i l = (l.i ≤ 512) × Narrowed (tries l.marks) (aim_of l.here) (partial_sum l.here) l.k l.m l.i
-
-abbrev pub decreases-node-loop-i : goal.decreases-node-loop-i
-decreases-node-loop-i l = 512 - l.i
+invariant-node-loop-i l = Narrowed (tries l.marks) (aim_of l.here) (partial_sum l.here) l.k l.m l.i

@@ -4,48 +4,24 @@ use Rattle.search.proofs.Lengths.{none_short, none_more, none_found, found_first
 use native.Mathlib.Omega.{arith}
 use Rattle.search_steps.proofs.by_length.Goals as goal
 
-pub loop-k-init : goal.loop-k-init
-loop-k-init c =
-    let st = c in
-    let a = st.args in
-    let A = At a.cells in
-    let g = st.requires.1.1.0 in
-    let M = st.requires.1.1.1.0 in
-    let q = c.least_count-k.ensures in
-    (omega arith, none_short stage (λ m t. t) A a.w a.h c.least_count-k.result g.0 g.1 q)
+pub loop-n-init : goal.loop-n-init
+loop-n-init c =
+    let a = c.args in
+    let g = c.requires.1.1.0 in
+    none_short stage (λ m t. t) (At a.cells) a.w a.h _ g.0 g.1 c.least_count-n.ensures
 
-pub of_length-p-requires : goal.of_length-p-requires
-of_length-p-requires c =
-    let st = c in
-    (omega arith, st.requires.1.1.1.1)
+pub returns-in-Some : goal.returns-in-Some
+returns-in-Some c =
+    let a = c.args in
+    found_first stage (λ m t. t) (At a.cells) a.marks.now c.requires.1.1.1.0 c.loop-n.n c.loop-n.invariant c.in-Some.masks c.in-Some.ensures
 
-pub returns-then-p : goal.returns-then-p
-returns-then-p c =
-    let st = c in
-    let a = st.args in
-    let A = At a.cells in
-    let g = st.requires.1.1.0 in
-    let M = st.requires.1.1.1.0 in
-    let l = c.loop-k in
-    let n = c.of_length-p in
-    found_first stage (λ m t. t) A a.marks.now M l.k l.invariant.1 n.result.found n.result.masks n.ensures c.if-p.true
-
-pub loop-k-preserved : goal.loop-k-preserved
-loop-k-preserved c =
-    let st = c in
-    let a = st.args in
-    let A = At a.cells in
-    let g = st.requires.1.1.0 in
-    let M = st.requires.1.1.1.0 in
-    let l = c.loop-k in
-    let n = c.of_length-p in
-    (omega arith, none_more stage (λ m t. t) A a.marks.now M l.k l.invariant.1 n.result.found n.result.masks n.ensures c.if-p.false)
+pub loop-n-preserved : goal.loop-n-preserved
+loop-n-preserved c =
+    let a = c.args in
+    none_more stage (λ m t. t) (At a.cells) a.marks.now c.requires.1.1.1.0 c.loop-n.n c.loop-n.invariant c.in_default.ensures
 
 pub returns : goal.returns
 returns c =
-    let st = c in
-    let a = st.args in
-    let A = At a.cells in
-    let g = st.requires.1.1.0 in
-    let M = st.requires.1.1.1.0 in
-    none_found stage (λ m t. t) A a.w a.h c.loop-k.k g.0 g.1 c.loop-k.invariant.1 (omega arith)
+    let a = c.args in
+    let g = c.requires.1.1.0 in
+    none_found stage (λ m t. t) (At a.cells) a.w a.h c.loop-n.n g.0 g.1 c.loop-n.invariant (omega arith)
