@@ -27,37 +27,25 @@ fn marked(cells: [u16; 16]) -> [u8; 512]
     ensures { Candidates isStage (At cells) 512 result }
 {
     let mut marks = [0u8; 512];
-    let mut m: u16 = 0;
-    while m < 512 {
+    for m in 0..512 {
         marks[m as usize] = mark(cells, m);
-        m += 1;
     }
     marks
 }
 
-// Masks in a list, the first n.
-#[derive(Drop)]
-struct Tries {
-    list: [u16; 512],
-    n: usize,
-}
-
-// The masks that are marked.
-fn listed(marks: &[u8]) -> Tries
-    requires { length marks.now ≡ 512 }
-    ensures { Drawn marks.now 512 result.list result.n }
+// Puts the masks that are marked to the front of the list, and answers how many they are.
+fn listed(marks: &[u8], list: &mut [u16; 512]) -> usize
+    requires { (length marks.now ≡ 512) × (length list.old ≡ 512) }
+    ensures { Drawn marks.now 512 list.new result }
 {
-    let mut list = [0u16; 512];
     let mut n: usize = 0;
-    let mut m: u16 = 0;
-    while m < 512 {
+    for m in 0..512 {
         list[n] = m;
         if marks[m as usize] == 1 {
             n += 1;
         }
-        m += 1;
     }
-    Tries { list: list, n: n }
+    n
 }
 
 // Stores the numbers of the mask m in their place in the table.
@@ -66,10 +54,8 @@ fn store(table: &mut [u8], m: usize, numbers: [u8; 18])
     ensures { Stored table.old m numbers 18 table.new }
 {
     let at = m * 18;
-    let mut j: usize = 0;
-    while j < 18 {
+    for j in 0..18 {
         table[at + j] = numbers[j];
-        j += 1;
     }
 }
 
@@ -91,10 +77,8 @@ fn tabled(marks: &[u8], table: &mut [u8])
     requires { Marks marks.now × (length table.old ≡ 9216) }
     ensures { Tabled marks.now 512 table.new }
 {
-    let mut m: u16 = 0;
-    while m < 512 {
+    for m in 0..512 {
         entered(marks, table, m);
-        m += 1;
     }
 }
 
@@ -103,14 +87,14 @@ pub fn pooled(cells: [u16; 16]) -> Pool
     ensures { Stocked cells result }
 {
     let marks = marked(cells);
-    let d = listed(&marks);
-    let list = d.list;
+    let mut list = [0u16; 512];
+    let n = listed(&marks, &mut list);
     let mut nums = [0u8; 9216];
     tabled(&marks, &mut nums);
     Pool {
-        marks: marks,
-        list: list,
-        n: d.n,
-        nums: nums,
+        marks,
+        list,
+        n,
+        nums,
     }
 }

@@ -1,4 +1,4 @@
--- The marks, the list and the table, each by its function; a marked mask is a stage.
+-- A marked mask is a stage.
 use mathlib.Core.Path.{refl}
 use Rattle.masks.specs.Mask.{stage}
 use Rattle.rows.specs.Cells.{At}
