@@ -35,11 +35,7 @@ fn led(a: [u16; 16]) -> [u16; 18]
     ensures { (get_or result 0 0 ≡ 0) × ((get_or result 1 0 ≡ 0) × ((q : ℕ) → get_or result (q + 2) 0 ≡ get_or a q 0)) }
 {
     let mut r = [0u16; 18];
-    let mut y = 0;
-    while y < 16 {
-        r[y + 2] = a[y];
-        y += 1;
-    }
+    r[2..].copy_from_slice(&a);
     r
 }
 
@@ -49,10 +45,8 @@ pub fn grown(a: [u16; 16], m: u16) -> [u16; 16]
 {
     let u = led(a);
     let mut r = [0u16; 16];
-    let mut y = 0;
-    while y < 16 {
+    for y in 0..16 {
         r[y] = strip_sum(u[y + 2], m, 0) | strip_sum(u[y + 1], m, 3) | strip_sum(u[y], m, 6);
-        y += 1;
     }
     r
 }
@@ -78,11 +72,7 @@ fn trailed(t: [u16; 16]) -> [u16; 18]
     ensures { (q : ℕ) → get_or result q 0 ≡ get_or t q 0 }
 {
     let mut r = [0u16; 18];
-    let mut y = 0;
-    while y < 16 {
-        r[y] = t[y];
-        y += 1;
-    }
+    r[..16].copy_from_slice(&t);
     r
 }
 
@@ -92,12 +82,10 @@ pub fn shrunk(t: [u16; 16], m: u16) -> [u16; 16]
 {
     let u = trailed(t);
     let mut r = [0u16; 16];
-    let mut y = 0;
-    while y < 16 {
+    for y in 0..16 {
         r[y] = strip_residue(u[y], m, 0)
             & strip_residue(u[y + 1], m, 3)
             & strip_residue(u[y + 2], m, 6);
-        y += 1;
     }
     r
 }

@@ -1,11 +1,11 @@
 -- A loop that sets the elements of a list from j on, one a turn: those passed are f of their index, and the others as they were.
-use mathlib.Core.Path.{◌≡◌, sym, ap, subst, ◌∙◌}
+use mathlib.Core.Path.{◌≡◌, sym, subst, ◌∙◌}
 use mathlib.Core.Logic.{⊎_elim}
 use mathlib.Core.List.{List}
 use Prim.Native.Nat.{ℕ, ◌+◌, ◌≤◌, ◌<◌}
 use native.Mathlib.Omega.{arith}
 use native.Mathlib.Nat.{eq-or-lt_of_le}
-use lib.ListN.{length, get_or, set, length-set}
+use lib.ListN.{length, get_or, set}
 use lib.Seq.{get_or-set_same, get_or-set_other}
 
 -- r has f from j to y, and g before and after
@@ -13,9 +13,6 @@ pub record Filled (f g : ℕ → ℕ) (j y : ℕ) (r : List ℕ) : Type 0 where
   pub inside : (q : ℕ) → j ≤ q → q < y → get_or r q 0 ≡ f q
   pub before : (q : ℕ) → q < j → get_or r q 0 ≡ g q
   pub after : (q : ℕ) → y ≤ q → get_or r q 0 ≡ g q
-
-pub fill_none : (f g : ℕ → ℕ) (j : ℕ) (r : List ℕ) → ((q : ℕ) → get_or r q 0 ≡ g q) → Filled f g j j r
-fill_none f g j r h = record { inside = λ q a b. absurd (omega arith); before = λ q a. h q; after = λ q a. h q }
 
 pub fill_more : (f g : ℕ → ℕ) (j y : ℕ) (r : List ℕ) (v : ℕ) → j ≤ y → y < length r → v ≡ f y → Filled f g j y r → Filled f g j (y + 1) (set r y v)
 fill_more f g j y r v l n e h = record {
@@ -26,12 +23,3 @@ fill_more f g j y r v l n e h = record {
   before = λ q a. get_or-set_other r y q v 0 (λ k. omega arith) ∙ h.before q a;
   after = λ q a. get_or-set_other r y q v 0 (λ k. omega arith) ∙ h.after q (omega arith);
 }
-
--- the same where the list is only known to be the one after the store
-pub fill_set : (f g : ℕ → ℕ) (j y n : ℕ) (r s : List ℕ) (v : ℕ) → s ≡ set r y v → length r ≡ n → j ≤ y → y < n → v ≡ f y → Filled f g j y r
-    → (length s ≡ n) × Filled f g j (y + 1) s
-fill_set f g j y n r s v e l a b w h = (
-  ap length e ∙ length-set r y v
-      ∙ l,
-  subst (λ (k : List ℕ). Filled f g j (y + 1) k) (sym e) (fill_more f g j y r v a (subst (λ (k : ℕ). y < k) (sym l) b) w h),
-)

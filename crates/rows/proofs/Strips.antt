@@ -6,35 +6,14 @@ use Prim.Native.Nat.{ℕ, zero, suc, ◌+◌, ◌-◌, ◌*◌, ◌/◌, ◌%◌
 use native.Mathlib.Omega.{arith}
 use native.Mathlib.Nat.{add_comm}
 use lib.Bits.{bit_and, bit_or}
-use lib.ListN.{get_or, get_or-eq_default}
+use lib.ListN.{get_or}
 use Rattle.plane.proofs.Tests.{lt_or_le}
 use Rattle.rows.specs.Cells.{Sum, Residue, At, AtMask, bit, CutTo}
 use Rattle.rows.specs.Leaves.{moved_of, strip, held_of, hold}
 use Rattle.rows.proofs.Fill.{Filled}
 use Rattle.rows.proofs.RowBits.{bit_shr, no_bit}
 use Rattle.rows.proofs.Shifts.{or_on, on_or_l, on_or_r, and_on_l, and_on_r, on_and, on_shl, shl_on}
-use Rattle.rows.proofs.Sums.{Rows16, ones16}
-
--- ---- rows with two more around them
-
-pub led_made : (a r : List ℕ) → Rows16 a → Filled (λ q. get_or a (q - 2) 0) (λ q. 0) 2 18 r
-    → (get_or r 0 0 ≡ 0) × ((get_or r 1 0 ≡ 0) × ((q : ℕ) → get_or r (q + 2) 0 ≡ get_or a q 0))
-led_made a r w f = (
-  f.before 0 (omega arith),
-  (
-    f.before 1 (omega arith),
-    λ q. ⊎_elim
-        (λ l. f.inside (q + 2) (omega arith) (omega arith) ∙ ap (λ (n : ℕ). get_or a n 0) (omega arith))
-        (λ l. f.after (q + 2) (omega arith) ∙ sym (get_or-eq_default a 0 (subst (λ (k : ℕ). k ≤ q) (sym w.rows) l)))
-        (lt_or_le q 16),
-  ),
-)
-
-pub trailed_made : (t r : List ℕ) → Rows16 t → Filled (λ q. get_or t q 0) (λ q. 0) 0 16 r → (q : ℕ) → get_or r q 0 ≡ get_or t q 0
-trailed_made t r w f q = ⊎_elim
-    (λ l. f.inside q (omega arith) l)
-    (λ l. f.after q l ∙ sym (get_or-eq_default t 0 (subst (λ (k : ℕ). k ≤ q) (sym w.rows) l)))
-    (lt_or_le q 16)
+use Rattle.rows.proofs.Sums.{ones16}
 
 -- ---- a word of ones, or 0
 

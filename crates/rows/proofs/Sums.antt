@@ -1,6 +1,6 @@
 -- The sums of rows, a row and a bit at a time; rows with the same cells.
 use mathlib.Core.Path.{◌≡◌, refl, sym, ap, subst, ◌∙◌}
-use mathlib.Core.Logic.{◌⊎◌, inl, inr, ⊎_elim}
+use mathlib.Core.Logic.{◌⊎◌, ⊎_elim}
 use mathlib.Core.List.{List}
 use Prim.Native.Nat.{ℕ, zero, suc, ◌+◌, ◌-◌, ◌*◌, ◌/◌, ◌%◌, ◌^◌, ◌≤◌, ◌<◌}
 use native.Mathlib.Omega.{arith}
@@ -11,7 +11,7 @@ use lib.Pow.{pow_pos, ones_split, high, ones_lt}
 use Rattle.std.proofs.lemmas.List.{ext_get_or}
 use Rattle.plane.proofs.Tests.{lt_or_le}
 use Rattle.rows.specs.Cells.{Same, bit, At}
-use Rattle.rows.specs.Leaves.{Onto, RowSum, SumTo, SumOf}
+use Rattle.rows.specs.Leaves.{RowSum, SumTo}
 use Rattle.rows.proofs.RowBits.{bits_ext, bit_in, no_bit, bit_shr}
 
 pub last_or : (q n : ℕ) → q < n + 1 → (q ≡ n) ⊎ (q < n)
@@ -52,29 +52,6 @@ low_of b n e = let l = (div-lt_iff_lt-mul (pow_pos n)).0 (less (b / 2 ^ n) e) in
 
 -- ---- sums
 module _ (z a : List ℕ) (b j : ℕ) where
-  pub row_sum_none : RowSum z a b j 0 z
-  row_sum_none = record { to = λ x y h. inl h; kept = λ x y h. h; from = λ i l. absurd (omega arith) }
-
-  pub row_sum_on : (n : ℕ) (r s : List ℕ) → RowSum z a b j n r → bit b n ≡ 1 → Onto r a n j s → RowSum z a b j (n + 1) s
-  row_sum_on n r s p e o = record {
-    to = λ x y h. ⊎_elim (p.to x y) (λ w. inr (n, (e, w))) (o.to x y h);
-    kept = λ x y h. o.kept x y (p.kept x y h);
-    from = λ i l u x y h v w. ⊎_elim
-        (λ q. subst (λ (k : ℕ). At s (x + k) (y + j)) (sym q) (o.from x y h (subst (λ (k : ℕ). x + k < 16) q v) w))
-        (λ q. o.kept (x + i) (y + j) (p.from i q u x y h v w))
-        (last_or i n l);
-  }
-
-  pub row_sum_off : (n : ℕ) (r : List ℕ) → RowSum z a b j n r → (bit b n ≡ 1 → ⊥) → RowSum z a b j (n + 1) r
-  row_sum_off n r p e = record {
-    to = p.to;
-    kept = p.kept;
-    from = λ i l u x y h v w. ⊎_elim
-        (λ q. absurd (e (subst (λ (k : ℕ). bit b k ≡ 1) q u)))
-        (λ q. p.from i q u x y h v w)
-        (last_or i n l);
-  }
-
   -- where no bit is left the sum is done
   pub row_sum_end : (n : ℕ) (r : List ℕ) → b / 2 ^ n ≡ 0 → RowSum z a b j n r → RowSum z a b j 16 r
   row_sum_end n r e p = record { to = p.to; kept = p.kept; from = λ i l u. p.from i (bit_in n b i (low_of b n e) u) u }
@@ -85,12 +62,6 @@ zero_at (suc n) zero = refl
 zero_at (suc n) (suc q) = zero_at n q
 
 module _ (a b : List ℕ) where
-  pub sum_none : SumTo a b 0 (replicate 16 0)
-  sum_none = record {
-    to = λ x y h. absurd (no_bit x (ap (λ (n : ℕ). bit n x) (sym (zero_at 16 y)) ∙ h));
-    from = λ i j l. absurd (omega arith);
-  }
-
   pub sum_more : Rows16 b → (n : ℕ) (r s : List ℕ) → SumTo a b n r → RowSum r a (get_or b n 0) n 16 s → SumTo a b (n + 1) s
   sum_more wb n r s p o = record {
     to = λ x y h. ⊎_elim (p.to x y)
@@ -121,15 +92,6 @@ module _ (a b : List ℕ) where
         (λ q. absurd (no_bit i (ap (λ (k : ℕ). bit k i) (sym z) ∙ subst (λ (k : ℕ). At b i k) q u)))
         (λ q. p.from i j q u x y h v w)
         (last_or j n l);
-  }
-
-  pub sum_done : Rows16 b → (r : List ℕ) → SumTo a b 16 r → SumOf a b r
-  sum_done wb r p = record {
-    to = p.to;
-    from = λ x y s u v.
-        subst (λ (k : ℕ). At r k y) s.at_x (subst (λ (k : ℕ). At r (s.x1 + s.x2) k) s.at_y
-        (p.from s.x2 s.y2 (in_y b wb s.x2 s.y2 s.right) s.right s.x1 s.y1 s.left (omega (arith, s.at_x))
-        (omega (arith, s.at_y))));
   }
 
 -- ---- a word of ones
