@@ -1,12 +1,13 @@
 -- The loops over cells: that the greatest cell decides ground 13 and the counts make the load and the measured cells.
 use mathlib.Core.Path.{◌≡◌, refl, ◌∙◌, ap}
 use mathlib.Core.Bool.{Bool, true, false, cond, not, ◌||◌}
-use mathlib.Core.List.{List, [], ◌∷◌, ◌++◌}
-use Prim.Native.Nat.{ℕ, zero, suc, ◌+◌, ◌≤◌, max}
+use mathlib.Core.List.{List, [], ◌∷◌}
+use Prim.Native.Nat.{ℕ, zero, suc, ◌+◌, ◌-◌, ◌≤◌, max}
 use native.Mathlib.Omega.{arith}
 use borrow.Author.Tests.{ltb-true, ltb-false, lt-ltb, le-ltb, eqb-true}
 use lib.Dec.{ltb, eqb}
-use lib.ListN.{length, get_or}
+use lib.ListN.{length, get_or, take, drop}
+use lib.Seq.{drop-drop}
 use Rattle.plane.specs.Lists.{keep}
 use Rattle.plane.proofs.Member.{length_keep}
 use Rattle.grids.specs.Frame.{full, unmeasured, highest, bad_cell, load}
@@ -38,10 +39,16 @@ greatest_bad (v ∷ vs) = above v (greatest_of vs) ∙ ap (λ b. ltb highest v |
 
 -- ---- counts
 
--- the cells of one list, and then those of another
-pub counts_append : (v : ℕ) (a b : List ℕ) → counts_of v (a ++ b) ≡ counts_of v a + counts_of v b
-counts_append v [] b = omega arith
-counts_append v (c ∷ a) b = let i = counts_append v a b in omega arith
+-- a part of the cells from k on, and those behind it
+pub counts_part : (v : ℕ) (l : List ℕ) (k e : ℕ) → k ≤ e → counts_of v (drop k l) ≡ counts_of v (take (e - k) (drop k l)) + counts_of v (drop e l)
+counts_part v l k e h =
+    let i : k + (e - k) ≡ e = omega arith in
+    split (e - k) (drop k l) ∙ ap (λ r. counts_of v (take (e - k) (drop k l)) + counts_of v r) (drop-drop (e - k) k l ∙ ap (λ n. drop n l) i)
+  where
+    split : (n : ℕ) (l : List ℕ) → counts_of v l ≡ counts_of v (take n l) + counts_of v (drop n l)
+    split zero l = omega arith
+    split (suc n) [] = refl
+    split (suc n) (c ∷ cs) = let i = split n cs in omega arith
 
 -- each cell counts at most 1
 pub counts_most : (v : ℕ) (l : List ℕ) → counts_of v l ≤ length l

@@ -1,28 +1,42 @@
--- A chunk comes off the cells that are left, with its count; at the end none are left.
+-- A chunk comes off the cells that are left, with its count.
 use mathlib.Core.Path.{◌≡◌, ◌∙◌, ap}
+use mathlib.Core.List.{List}
+use Prim.Native.Nat.{ℕ, ◌+◌, ◌-◌, ◌*◌, ◌/◌, ◌≤◌}
+use lib.ListN.{length, take, drop, length-drop}
 use native.Mathlib.Omega.{arith}
-use Rattle.std.specs.Slice.Iter.{chunks_rest}
 use Rattle.cell_steps.specs.Leaves.{counts_of}
-use Rattle.cell_steps.proofs.Loops.{counts_append, counts_most, counts_times}
+use Rattle.cell_steps.proofs.Loops.{counts_part, counts_most, counts_times}
 use Rattle.cell_steps.proofs.in_chunks.Goals as goal
 
 pub overflow_add-n : goal.overflow_add-n
 overflow_add-n c =
     let v = c.args.v in
-    let s = c.in-Some.ensures.steps in
-    let e = ap (counts_of v) s.1.0 ∙ counts_append v c.in-Some.chunk.now (chunks_rest c.next.new.self) in
-    omega (arith, counts_most v c.args.cells.now)
+    let k = c.loop-i.i * 224 in
+    omega (arith, counts_part v c.args.cells.now k (k + 224) (omega arith), counts_most v c.args.cells.now)
 
-pub loop-chunk-preserved : goal.loop-chunk-preserved
-loop-chunk-preserved c =
+pub loop-i-preserved : goal.loop-i-preserved
+loop-i-preserved c =
+    let k = c.loop-i.i * 224 in
+    let e : (c.loop-i.i + 1) * 224 ≡ k + 224 = omega arith in
+    rw e (omega (arith, counts_part c.args.v c.args.cells.now k (k + 224) (omega arith)))
+
+-- what the last call counts is what is left
+last : (v : ℕ) (l : List ℕ) (n k i : ℕ) → n + counts_of v (drop i l) ≡ counts_of v l → i ≡ k → k ≤ length l
+    → n + counts_of v (take (length l - k) (drop k l)) ≡ counts_of v l
+last v l n k i h e r =
+    let a = ap (λ j. counts_of v (drop j l)) e in
+    omega (arith, counts_part v l k (length l) r, counts_most v (drop (length l) l), length-drop (length l) l)
+
+pub overflow_add-result : goal.overflow_add-result
+overflow_add-result c =
     let v = c.args.v in
-    let s = c.in-Some.ensures.steps in
-    let e = ap (counts_of v) s.1.0 ∙ counts_append v c.in-Some.chunk.now (chunks_rest c.next.new.self) in
-    (omega arith, tt, omega arith, omega arith)
+    let l = c.args.cells.now in
+    omega (arith, last v l c.loop-i.n (length l / 224 * 224) (c.loop-i.i * 224) c.loop-i.invariant (omega arith) (omega arith), counts_most v l)
 
 pub returns : goal.returns
 returns c =
-    let l = c.loop-chunk in
-    let s = c.in-None.ensures.steps in
-    let e : l.n ≡ counts_of c.args.v c.args.cells.now = omega (arith, counts_most c.args.v (chunks_rest l.chunk-iterator)) in
-    e ∙ counts_times c.args.v c.args.cells.now
+    let v = c.args.v in
+    let l = c.args.cells.now in
+    let e : c.loop-i.n + c.from.result ≡ counts_of v l =
+    omega (arith, last v l c.loop-i.n (length l / 224 * 224) (c.loop-i.i * 224) c.loop-i.invariant (omega arith) (omega arith)) in
+    e ∙ counts_times v l

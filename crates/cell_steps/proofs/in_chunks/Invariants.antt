@@ -1,13 +1,9 @@
--- The invariant: the count so far and those of the chunks to come make the whole.
+-- The invariant: the count so far and those of the cells behind the chunks passed make the whole, which is at most the number of cells, so nothing wraps.
 use mathlib.Core.Path.{◌≡◌}
-use Prim.Native.Nat.{◌+◌}
-use Rattle.std.specs.Slice.Iter.{chunks_rest, chunks_size}
+use Prim.Native.Nat.{◌+◌, ◌*◌}
+use lib.ListN.{drop}
 use Rattle.cell_steps.specs.Leaves.{counts_of}
 use Rattle.cell_steps.proofs.in_chunks.Given as goal
 
-abbrev pub invariant-loop-chunk : goal.invariant-loop-chunk
-invariant-loop-chunk l =
-    (goal.iterator-loop-chunk).can_next l.chunk-iterator ×
-    (goal.iterator-loop-chunk).is_finite l.chunk-iterator ×
-    (chunks_size l.chunk-iterator ≡ 224) ×
-    (l.n + counts_of l.v (chunks_rest l.chunk-iterator) ≡ counts_of l.v l.cells)
+abbrev pub invariant-loop-i : goal.invariant-loop-i
+invariant-loop-i l = l.n + counts_of l.v (drop (l.i * 224) l.cells) ≡ counts_of l.v l.cells
