@@ -1,4 +1,4 @@
--- Bytes moved towards the start of a list, a chunk at a time: by way of another list, and chunk after chunk; and the row behind them.
+-- Bytes moved towards the start of a list, and the row behind them.
 use mathlib.Core.Path.{◌≡◌, sym, ap, ◌∙◌, subst}
 use mathlib.Core.Logic.{◌⊎◌, inl, inr}
 use mathlib.Core.List.{List, ◌++◌}
@@ -10,39 +10,8 @@ use lib.Seq.{ext_get_or, get_or-drop, get_or-append-add}
 use borrow.Rule.Slice.PartMut.{mid_of, put_mid, mid_len}
 use Rattle.plane.proofs.Tests.{lt_or_le}
 use Rattle.ranges.specs.Ranges.{Ranged}
-use Rattle.ranges.proofs.Ranges.{ranged_ap, ranged_copy, ranged_join, ranged_part}
+use Rattle.ranges.proofs.Ranges.{ranged_part}
 use Rattle.rolling.specs.Rolling.{rolled}
-
--- a chunk that goes by way of another list, which keeps its length
-module _ (p n w : ℕ) (d chunk : List ℕ) {ys : List ℕ} (room : n ≤ length chunk) (fits : p + n + w ≤ length d)
-    (first : Ranged 0 0 (min (length (mid_of 0 (n - 0) chunk)) (length (mid_of (p + w) (p + w + n - (p + w)) d)))
-    (λ k. get_or (mid_of (p + w) (p + w + n - (p + w)) d) k 0) (mid_of 0 (n - 0) chunk) ys) where
-  out : Ranged 0 0 n (λ k. get_or d (p + w + (k - 0)) 0) chunk (put_mid 0 (n - 0) chunk ys)
-  out = ranged_copy (p + w) (p + w + n) d {a = 0} {e = n} zero-le room (omega arith) (omega arith) first
-
-  pub chunk_long : length (put_mid 0 (n - 0) chunk ys) ≡ length chunk
-  chunk_long = out.len
-
-  pub chunk_moved : {zs : List ℕ} → Ranged 0 0 (min (length (mid_of p (p + n - p) d)) (length (mid_of 0 (n - 0) (put_mid 0 (n - 0) chunk ys))))
-      (λ k. get_or (mid_of 0 (n - 0) (put_mid 0 (n - 0) chunk ys)) k 0) (mid_of p (p + n - p) d) zs
-      → Ranged 0 p (p + n) (λ k. get_or d (k + w) 0) d (put_mid p (p + n - p) d zs)
-  chunk_moved second =
-      let back = ranged_copy 0 n (put_mid 0 (n - 0) chunk ys) {a = p} {e = p + n} (omega arith) (omega arith) (omega (arith, out.len)) (omega arith) second in
-      ranged_ap back (λ k lo hi.
-      let e : p + w + (0 + (k - p) - 0) ≡ k + w = omega arith in
-      out.at (0 + (k - p)) zero-le (omega arith) ∙ ap (λ i. get_or d i 0) e)
-
--- one chunk more: what it reads is past what was written
-pub more_moved : (n w : ℕ) {p : ℕ} {d₀ d d' : List ℕ} → Ranged 0 0 p (λ k. get_or d₀ (k + w) 0) d₀ d → Ranged 0 p (p + n) (λ k. get_or d (k + w) 0) d d'
-    → Ranged 0 0 (p + n) (λ k. get_or d₀ (k + w) 0) d₀ d'
-more_moved n w {p} r s = ranged_join r (ranged_ap s (λ k lo hi. r.above (k + w) (omega arith))) zero-le (omega arith)
-
--- the last chunk has what is left of n
-pub all_moved : (n w : ℕ) {p : ℕ} {d₀ d d' : List ℕ} → p ≤ n → Ranged 0 0 p (λ k. get_or d₀ (k + w) 0) d₀ d
-    → Ranged 0 p (p + (n - p)) (λ k. get_or d (k + w) 0) d d'
-    → Ranged 0 0 n (λ k. get_or d₀ (k + w) 0) d₀ d'
-all_moved n w {p} {d₀} {d} {d'} l r s =
-    let e : p + (n - p) ≡ n = omega arith in subst (λ m. Ranged 0 0 m (λ k. get_or d₀ (k + w) 0) d₀ d') e (more_moved (n - p) w r s)
 
 -- all but the last w bytes moved up by w, and the last w copied from the row
 module _ (w : ℕ) (row live : List ℕ) {up : List ℕ} (long : length row ≡ w) (room : w ≤ length live)
