@@ -4,6 +4,7 @@
 ghost use Rattle.std.specs.Prelude.{◌≡◌, ◌-◌};
 ghost use Rattle.grids.specs.Grid.{outside_of, start_of, FramePut};
 
+use cuts::{Part, Sides};
 use grids::Around;
 use words::Answer;
 
@@ -11,10 +12,7 @@ use words::Answer;
 pub fn outside(around: Around) -> u8
     ensures { result ≡ outside_of around }
 {
-    match around {
-        Around::Free => 0,
-        Around::Occupied => 1,
-    }
+    around.outside()
 }
 
 // 15 less where it starts.
@@ -31,12 +29,19 @@ fn distance(around: Around) -> usize
 pub fn put(w: usize, h: usize, frame: &[u8], around: Around, image: &mut [u8]) -> Answer
     ensures { FramePut around w h frame.now image.old result image.new }
 {
-    let tested = frame_grounds::put_refusal(w, h, frame, image);
-    if let Answer::Refused(ground) = tested {
-        return Answer::Refused(ground);
-    }
+    frame_grounds::put_refusal(w, h, frame, image)?;
     let d = distance(around);
-    let v = outside(around);
-    cut_steps::cut(frame, image, w + 15, h + 15, w, h, d, d, v);
-    Answer::Done(0)
+    let grid = Part {
+        w: w + 15,
+        h: h + 15,
+        a: d,
+        b: d,
+    };
+    let source = Sides {
+        columns: w,
+        rows: h,
+        outside: outside(around),
+    };
+    cut_steps::cut(frame, image, grid, source);
+    Ok(0)
 }

@@ -3,11 +3,12 @@ ghost use Rattle.std.specs.Prelude.{◌≤◌};
 ghost use Rattle.turn_steps.specs.Turns.{Worded, PlaneRoom, Turned, Passed, Ended};
 
 use cleaning::Operation;
+use cuts::Sides;
+use planes::Stage;
 
 // One single stage, after t others, with the value outside the grid.
 fn turn(
-    mask: u16,
-    erode: bool,
+    stage: Stage,
     outside: u8,
     t: usize,
     w: usize,
@@ -16,13 +17,18 @@ fn turn(
     second: &mut [u8],
 )
     requires { PlaneRoom w h first.old second.old × (outside ≤ 1) }
-    ensures { Turned erode outside mask w h t first.old second.old first.new second.new }
+    ensures { Turned stage.erode outside stage.mask w h t first.old second.old first.new second.new }
 {
+    let plane = Sides {
+        columns: w + 15,
+        rows: h + 15,
+        outside,
+    };
     if t % 2 == 0 {
-        plane_stage_steps::stage(first, second, w + 15, h + 15, mask, outside, erode);
-        return;
+        plane_stage_steps::stage(first, second, plane, stage);
+    } else {
+        plane_stage_steps::stage(second, first, plane, stage);
     }
-    plane_stage_steps::stage(second, first, w + 15, h + 15, mask, outside, erode);
 }
 
 // All stages of a plan, in order, after t others, with the value outside the grid. Returns how many have then been run.
@@ -40,20 +46,10 @@ fn pass(
     ensures { Passed erode outside plan.now w h t first.old second.old result first.new second.new }
 {
     let mut n = t;
-    let mut k: usize = 2;
-    while k < plan.len() {
-        turn(
-            (plan[k] % 512) as u16,
-            erode,
-            outside,
-            n,
-            w,
-            h,
-            first,
-            second,
-        );
+    for k in 2..plan.len() {
+        let mask = (plan[k] % 512) as u16;
+        turn(Stage { mask, erode }, outside, n, w, h, first, second);
         n += 1;
-        k += 1;
     }
     n
 }

@@ -1,20 +1,6 @@
 -- Each arm of the match is one operation: its passes, in order.
-use Prim.Native.Nat.{zero-le}
-use Rattle.turn_steps.proofs.Alternating.{room_past}
-use Rattle.turn_steps.proofs.Ending.{most, dilation_ends, erosion_ends, opening_ends, closing_ends}
+use Rattle.turn_steps.proofs.Ending.{dilation_ends, erosion_ends, opening_ends, closing_ends}
 use Rattle.turn_steps.proofs.turns.stages.Goals as goal
-
-pub pass-requires-in-Opening : goal.pass-requires-in-Opening
-pass-requires-in-Opening c =
-    let st = c in
-    let p = c.pass-n.ensures in
-    (st.requires.0, room_past st.requires.1 p.first p.second, most st.args.plan.now st.requires.0 p.count, zero-le)
-
-pub pass-requires-in-Closing : goal.pass-requires-in-Closing
-pass-requires-in-Closing c =
-    let st = c in
-    let p = c.pass-n-in-Closing.ensures in
-    (st.requires.0, room_past st.requires.1 p.first p.second, most st.args.plan.now st.requires.0 p.count, zero-le)
 
 pub returns-in-Dilation : goal.returns-in-Dilation
 returns-in-Dilation c = dilation_ends _ c.in-Dilation.is c.pass.ensures
