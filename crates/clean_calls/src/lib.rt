@@ -6,15 +6,16 @@
 mod packing;
 
 ghost use Rattle.std.specs.Prelude.{◌≡◌};
-ghost use Rattle.words.specs.Ground.{stated, refusal, first_of};
+ghost use Rattle.words.specs.Ground.{refused_by, first_of};
 ghost use Rattle.frame_grounds.specs.Looking.{greatest_cell};
 ghost use Rattle.cleaning.specs.declared.Operation.TheVariants.{Dilation, Erosion, Opening, Closing};
 ghost use Rattle.cleaning.specs.Cleaning.{operation_tests, Cleaned};
 
 use cleaning::Operation;
-use words::Answer;
+use words::{Answer, Ground};
 
-// What refuses an operation on a frame whose greatest number is this: the first of grounds 1 to 3, 5 to 8 and 11 to 14 that holds; Done(0) where none does.
+// What refuses an operation on a frame whose greatest number is this: the first of grounds 1 to 3, 5 to 8 and 11 to 14 that holds; Ok(()) where none does.
+#[tactic(auto, using(crate::proofs::Accepted::operation_first, frame_grounds::proofs::Looked::work_by))]
 fn refused(
     plan: &[u32],
     w: usize,
@@ -23,14 +24,11 @@ fn refused(
     greatest: u8,
     first: &[u8],
     second: &[u8],
-) -> Answer
+) -> Result<(), Ground>
     requires { greatest ≡ greatest_cell w h frame.now }
-    ensures { stated result ≡ refusal (first_of (operation_tests plan.now w h frame.now first.now second.now)) }
+    ensures { refused_by result ≡ first_of (operation_tests plan.now w h frame.now first.now second.now) }
 {
-    let tested = plan_grounds::plan_refusal(plan);
-    if let Answer::Refused(ground) = tested {
-        return Answer::Refused(ground);
-    }
+    plan_grounds::plan_refusal(plan)?;
     frame_grounds::work_refusal(w, h, frame, greatest, first, second)
 }
 
@@ -48,15 +46,11 @@ fn clean(
         second.new }
 {
     let greatest = frame_grounds::greatest_cell(w, h, frame);
-    let tested = refused(plan, w, h, frame, greatest, first, second);
-    if let Answer::Refused(ground) = tested {
-        return Answer::Refused(ground);
-    }
+    refused(plan, w, h, frame, greatest, first, second)?;
     let two = greatest > 1;
     packing::levels(op, w, h, frame, first, two);
     let n = result_steps::run(op, plan, w, h, first, second, two);
-    let run = n as u32;
-    Answer::Done(run)
+    Ok(n as u32)
 }
 
 // Dilation by the plan's points.

@@ -7,6 +7,9 @@ ghost use Rattle.cleaning.specs.Operation.{around};
 ghost use Rattle.clean_calls.specs.Packing.{FramePackable, SecondPacked, LevelsPacked};
 
 use cleaning::Operation;
+use cuts::Sides;
+use grids::Around;
+use planes::Packing;
 
 // One level packed into a plane in the image, in the kind of grid that the operation works in: erosion's frame stands at (15, 15), among occupied cells.
 fn level(op: Operation, w: usize, h: usize, frame: &[u8], first: &mut [u8], some: bool) -> bool
@@ -14,20 +17,19 @@ fn level(op: Operation, w: usize, h: usize, frame: &[u8], first: &mut [u8], some
     ensures { Packed some (outside_of (around op)) (far_of (around op)) w h (w + 15) (h + 15) frame.now first.old result
         first.new }
 {
-    match op {
-        Operation::Dilation => {
-            plane_pack_steps::pack(frame, first, w, h, w + 15, h + 15, false, 0, some)
-        }
-        Operation::Erosion => {
-            plane_pack_steps::pack(frame, first, w, h, w + 15, h + 15, true, 1, some)
-        }
-        Operation::Opening => {
-            plane_pack_steps::pack(frame, first, w, h, w + 15, h + 15, false, 0, some)
-        }
-        Operation::Closing => {
-            plane_pack_steps::pack(frame, first, w, h, w + 15, h + 15, false, 0, some)
-        }
-    }
+    let around = op.around();
+    let placed = Packing {
+        w,
+        h,
+        far: around == Around::Occupied,
+        some,
+    };
+    let plane = Sides {
+        columns: w + 15,
+        rows: h + 15,
+        outside: around.outside(),
+    };
+    plane_pack_steps::pack(frame, first, placed, plane)
 }
 
 // The second level, behind the first plane.
@@ -36,8 +38,7 @@ fn second_level(op: Operation, w: usize, h: usize, frame: &[u8], first: &mut [u8
     ensures { SecondPacked (around op) w h frame.now first.old first.new }
 {
     let o = turn_steps::plane_bytes(w, h);
-    let n = first.len();
-    level(op, w, h, frame, &mut first[o..n], true);
+    level(op, w, h, frame, &mut first[o..], true);
 }
 
 // Both levels: one plane has them where no cell is 2.

@@ -6,6 +6,8 @@ mod staging;
 ghost use Rattle.grids.specs.Grid.{Staged};
 
 use grids::Around;
+use planes::Stage;
+use staging::Staging;
 use words::Answer;
 
 // The single stage of a word, by erosion or by dilation: the grid of one image into that of the other, of either kind.
@@ -21,15 +23,18 @@ pub fn stage(
     ensures { Staged erode around word w h from.now to.old result to.new }
 {
     let greatest = frame_grounds::greatest_byte(w, h, from);
-    let tested = frame_grounds::stage_refusal(word, w, h, from, greatest, to);
-    if let Answer::Refused(ground) = tested {
-        return Answer::Refused(ground);
-    }
+    frame_grounds::stage_refusal(word, w, h, from, greatest, to)?;
     let mask = (word % 512) as u16;
+    let s = Staging {
+        w,
+        h,
+        stage: Stage { mask, erode },
+        around,
+    };
     if greatest > 1 {
-        staging::by_two(from, to, w, h, mask, around, erode);
-        return Answer::Done(0);
+        staging::by_two(from, to, s);
+    } else {
+        staging::by_one(from, to, s);
     }
-    staging::by_one(from, to, w, h, mask, around, erode);
-    Answer::Done(0)
+    Ok(0)
 }

@@ -15,30 +15,11 @@ fn runnable(plan: &[u32], w: usize, h: usize, first: &[u8], second: &[u8]) -> bo
     ensures yes { result ≡ true → Runnable plan.now w h first.now second.now }
     ensures no { result ≡ false → Runnable plan.now w h first.now second.now → ⊥ }
 {
-    if plan.len() < 2 {
-        return false;
-    }
-    if 32 < plan.len() {
-        return false;
-    }
-    let place = plan[1];
-    if 30 < place % 256 {
-        return false;
-    }
-    if 30 < place / 256 % 256 {
-        return false;
-    }
-    if frame_grounds::bad_size(w, h) {
-        return false;
-    }
-    let size = (w + 15) * (h + 15);
-    if first.len() < size {
-        return false;
-    }
-    if second.len() < size {
-        return false;
-    }
-    true
+    (2..=32).contains(&plan.len())
+        && plan[1] % 256 <= 30
+        && plan[1] / 256 % 256 <= 30
+        && !frame_grounds::bad_size(w, h)
+        && (w + 15) * (h + 15) <= first.len().min(second.len())
 }
 
 // The stages of an operation, on the plane in the first image, or on the two, and the cut of the result. Returns the number of stages run; 0, with the images

@@ -2,12 +2,11 @@
 ghost use Rattle.std.specs.Prelude.{◌≡◌, false, ◌+◌, ◌≤◌};
 ghost use Rattle.words.specs.Word.{place_x, place_y};
 ghost use Rattle.grids.specs.Frame.{bad_size};
-ghost use Rattle.grids.specs.Grid.{outside_of};
 ghost use Rattle.planes.specs.Planes.{second_at};
-ghost use Rattle.cleaning.specs.Operation.{around};
 ghost use Rattle.result_steps.specs.Cutting.{distance, Room, CutAway};
 
 use cleaning::Operation;
+use cuts::{Part, Sides};
 
 // 15 more than what is added to a coordinate of the result to find the byte that is read, from the place's field for that coordinate. The grid of erosion
 // starts 15 columns and rows before the others.
@@ -15,24 +14,10 @@ fn ahead(op: Operation, field: u32) -> usize
     requires { field ≤ 30 }
     ensures { result ≡ distance op field }
 {
-    let back = 30 - field;
     match op {
-        Operation::Dilation => back as usize,
+        Operation::Dilation => 30 - field as usize,
         Operation::Erosion => field as usize + 15,
-        Operation::Opening => 15,
-        Operation::Closing => 15,
-    }
-}
-
-// The value of cells outside the grid: occupied for erosion alone.
-fn beyond(op: Operation) -> u8
-    ensures { result ≡ outside_of (around op) }
-{
-    match op {
-        Operation::Dilation => 0,
-        Operation::Erosion => 1,
-        Operation::Opening => 0,
-        Operation::Closing => 0,
+        Operation::Opening | Operation::Closing => 15,
     }
 }
 
@@ -42,9 +27,10 @@ fn second_at(w: usize, h: usize, two: bool) -> usize
     ensures { result ≡ second_at two (w + 15) (h + 15) }
 {
     if two {
-        return turn_steps::plane_bytes(w, h);
+        turn_steps::plane_bytes(w, h)
+    } else {
+        0
     }
-    0
 }
 
 // The cut after t stages.
@@ -63,11 +49,17 @@ pub(crate) fn cut(
 {
     let a = ahead(op, place % 256);
     let b = ahead(op, place / 256 % 256);
-    let v = beyond(op);
+    let part = Part { w, h, a, b };
+    let plane = Sides {
+        columns: w + 15,
+        rows: h + 15,
+        outside: op.around().outside(),
+    };
     let o = second_at(w, h, two);
-    if t % 2 == 0 {
-        plane_unpack_steps::unpack(first, second, w, h, w + 15, h + 15, a, b, v, o);
-        return;
+    let even = t % 2 == 0;
+    if even {
+        plane_unpack_steps::unpack(first, second, part, plane, o);
+    } else {
+        plane_unpack_steps::unpack(second, first, part, plane, o);
     }
-    plane_unpack_steps::unpack(second, first, w, h, w + 15, h + 15, a, b, v, o);
 }

@@ -4,10 +4,8 @@ use Rattle.frame_calls.proofs.staging.by_planes.Goals as goal
 
 pub returns : goal.returns
 returns c =
-    let t = c in
-    let st = t in
-    let x = st.args in
-    let o = c.outside-beyond.ensures in
-    let h = t.levels.ensures in
-    stage_written x.erode x.around x.w x.h x.mask st.requires.0 h
-    ((rw o at c.unpack.ensures).done (unpacks x.erode x.around x.w x.h x.mask st.requires.0 h st.requires.1))
+    let s = c.args.s in
+    let o = c.outside.ensures in
+    let h = c.levels.ensures in
+    stage_written s.stage.erode s.around s.w s.h s.stage.mask c.requires.0 h
+    ((rw o at c.unpack.ensures).done (unpacks s.stage.erode s.around s.w s.h s.stage.mask c.requires.0 h c.requires.1))

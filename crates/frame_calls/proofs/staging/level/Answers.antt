@@ -4,12 +4,11 @@ use Rattle.frame_calls.proofs.staging.level.Goals as goal
 
 pub returns : goal.returns
 returns c =
-    let t = c in
-    let st = t in
-    let x = st.args in
-    let r = st.requires.0 in
-    let o = t.outside-beyond.ensures in
+    let x = c.args in
+    let s = x.s in
+    let r = c.requires.0 in
+    let o = c.outside.ensures in
     let p = (rw o at c.pack.ensures).done
-    (packs x.erode x.around x.w x.h x.mask r) in
-    level_taken x.erode x.around x.w x.h x.mask r p
-    ((rw o at c.stage.ensures).done (stages x.erode x.around x.w x.h x.mask r p x.plane.now st.requires.1))
+    (packs s.stage.erode s.around s.w s.h s.stage.mask r) in
+    level_taken s.stage.erode s.around s.w s.h s.stage.mask r p
+    ((rw o at c.stage.ensures).done (stages s.stage.erode s.around s.w s.h s.stage.mask r p x.plane.now c.requires.1))

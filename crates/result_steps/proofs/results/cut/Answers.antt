@@ -1,40 +1,36 @@
 -- The cut goes from one image into the other, at the distances that the place gives.
+use mathlib.Core.Path.{sym, ◌∙◌, ap}
+use native.Mathlib.Omega.{arith}
 use Rattle.words.specs.Word.{place_x, place_y}
+use Rattle.grids.specs.Grid.{outside_of}
 use Rattle.result_steps.proofs.Rooms.{room_cut}
 use Rattle.result_steps.proofs.Reading.{ahead_small, away_first, away_second}
-use native.Mathlib.Omega.{arith}
 use Rattle.result_steps.proofs.results.cut.Goals as goal
 
-pub returns-then-t-eq0 : goal.returns-then-t-eq0
-returns-then-t-eq0 c =
-    let at-if = c in
-    let st = at-if in
+pub returns-then-even : goal.returns-then-even
+returns-then-even c =
+    let st = c in
     let p = st.args.place in
-    let a = at-if.ahead-a in
-    let b = at-if.ahead-b in
-    let v = at-if.beyond-v in
-    let o = at-if.second_at-o in
-    let x = a.ensures in
-    let y = b.ensures in
+    let a = c.ahead-a in
+    let b = c.ahead-b in
+    let o = c.second_at-o in
+    let v = c.outside.ensures ∙ ap outside_of c.around.ensures in
     let fits = room_cut st.requires.2 st.args.first.now st.args.second.now st.requires.2.first st.requires.2.second st.args.two a.result
     b.result
-    o.ensures (omega (arith, x, ahead_small st.args.op (place_x p) st.requires.0))
-    (omega (arith, y, ahead_small st.args.op (place_y p) st.requires.1)) in
-    away_first p x y v.ensures o.ensures at-if.if-t-eq0.true (c.unpack.ensures.done fits)
+    o.ensures (omega (arith, a.ensures, ahead_small st.args.op (place_x p) st.requires.0))
+    (omega (arith, b.ensures, ahead_small st.args.op (place_y p) st.requires.1)) in
+    away_first p a.ensures b.ensures v o.ensures c.if-even.true (c.unpack.ensures.done fits)
 
-pub returns : goal.returns
-returns c =
-    let at-if = c in
-    let st = at-if in
+pub returns-else-even : goal.returns-else-even
+returns-else-even c =
+    let st = c in
     let p = st.args.place in
-    let a = at-if.ahead-a in
-    let b = at-if.ahead-b in
-    let v = at-if.beyond-v in
-    let o = at-if.second_at-o in
-    let x = a.ensures in
-    let y = b.ensures in
+    let a = c.ahead-a in
+    let b = c.ahead-b in
+    let o = c.second_at-o in
+    let v = c.outside.ensures ∙ ap outside_of c.around.ensures in
     let fits = room_cut st.requires.2 st.args.second.now st.args.first.now st.requires.2.second st.requires.2.first st.args.two a.result
     b.result
-    o.ensures (omega (arith, x, ahead_small st.args.op (place_x p) st.requires.0))
-    (omega (arith, y, ahead_small st.args.op (place_y p) st.requires.1)) in
-    away_second p x y v.ensures o.ensures at-if.if-t-eq0.false (c.unpack-2.ensures.done fits)
+    o.ensures (omega (arith, a.ensures, ahead_small st.args.op (place_x p) st.requires.0))
+    (omega (arith, b.ensures, ahead_small st.args.op (place_y p) st.requires.1)) in
+    away_second p a.ensures b.ensures v o.ensures c.if-even.false (c.unpack-else-even.ensures.done fits)
