@@ -1,4 +1,5 @@
 -- Writing a list, a word at a time: the words so far, and past them what stood there; and the words of the rows, a row at a time.
+use Rattle.std.specs.Prelude.{None, Some}
 use mathlib.Core.Path.{◌≡◌, refl, sym, ap, subst, ◌∙◌}
 use mathlib.Core.Bool.{Bool, true, false, cond}
 use mathlib.Core.List.{List, [], ◌∷◌, ◌++◌, map, map-append, append-nil}
@@ -119,11 +120,11 @@ module _ (ax ay : ℕ) (rows out : List ℕ) where
 
   -- past the list the words are those at entry
   pub writing_done : (y n : ℕ) (now : List ℕ) → 17 ≤ length out → y ≡ 16 → Writing ax ay rows (set out 0 (anchor_word (ax % 16) (ay % 16))) y n now
-      → WordsWritten (shape_words ax ay rows) out n now
+      → WordsWritten (shape_words ax ay rows) out (Some n) now
   writing_done y n now h e p =
       let w = subst (λ k. Written (list_to ax ay rows k) (set out 0 (anchor_word (ax % 16) (ay % 16))) n now) e p.so_far in
       let past = drop-set-lt (length (shape_words ax ay rows)) out 0 (anchor_word (ax % 16) (ay % 16)) (omega arith) in
-      record { short = λ l. absurd (omega arith); words = λ l. (w.count, w.words ∙ ap (λ o. shape_words ax ay rows ++ o) past) }
+      record { short = λ l. absurd (omega arith); words = λ l. (ap Some w.count, w.words ∙ ap (λ o. shape_words ax ay rows ++ o) past) }
 
-  pub writing_none : length out < 17 → WordsWritten (shape_words ax ay rows) out 0 out
+  pub writing_none : length out < 17 → WordsWritten (shape_words ax ay rows) out None out
   writing_none h = record { short = λ l. (refl, refl); words = λ l. absurd (omega arith) }

@@ -1,6 +1,6 @@
 -- Document 01, "Words": the kind in a word's top four bits decides how the rest is read. What any list of words holds, whether it would be refused or not:
 -- the cells and the anchor of a shape list, the place and the masks of a plan list; and the words of rows of bits.
-use Rattle.std.specs.Prelude.{◌≡◌, List, [], ◌∷◌, ◌++◌, map, ℕ, ◌%◌, ◌≤◌, ◌<◌, ltb, length, get_or, drop}
+use Rattle.std.specs.Prelude.{◌≡◌, List, [], ◌∷◌, ◌++◌, map, ℕ, ◌%◌, ◌≤◌, ◌<◌, ltb, length, get_or, drop, Option, None, Some}
 use Rattle.plane.specs.Lists.{In, flat, keep, up_to, bits}
 use Rattle.plane.specs.Point.{Cell}
 use Rattle.words.specs.Read.{word_of}
@@ -99,7 +99,7 @@ row_words rows = row_words_to 16 rows
 abbrev pub shape_words : ℕ → ℕ → List ℕ → List ℕ
 shape_words ax ay rows = anchor_word (ax % 16) (ay % 16) ∷ row_words rows
 
--- the list was written to out, which then is out', and its length is the answer; where out has fewer than 17 words nothing is written and the answer is 0
-pub record WordsWritten (ws out : List ℕ) (r : ℕ) (out' : List ℕ) : Type 0 where
-  pub short : length out < 17 → (r ≡ 0) × (out' ≡ out)
-  pub words : 17 ≤ length out → (r ≡ length ws) × (out' ≡ ws ++ drop (length ws) out)
+-- the list was written to out, which then is out', and its length is the answer; where out has fewer than 17 words nothing is written and there is none
+pub record WordsWritten (ws out : List ℕ) (r : Option ℕ) (out' : List ℕ) : Type 0 where
+  pub short : length out < 17 → (r ≡ None) × (out' ≡ out)
+  pub words : 17 ≤ length out → (r ≡ Some (length ws)) × (out' ≡ ws ++ drop (length ws) out)

@@ -1,9 +1,11 @@
 -- A shape in the window with the least anchor, written row by row, is the list of its points; and what its three answers say.
+use Rattle.std.specs.Prelude.{Option, None, Some}
+use Rattle.std.specs.Option.{ok_or}
 use mathlib.Core.Path.{◌≡◌, refl, sym, ◌∙◌, ap, ap₂, subst}
-use mathlib.Core.Logic.{◌↔◌, inl, inr, ⊎_elim, ◌≢◌}
+use mathlib.Core.Logic.{◌↔◌, inl, inr, ⊎_elim}
 use mathlib.Core.Bool.{Bool, true, false, not}
 use mathlib.Core.List.{List, [], ◌∷◌}
-use Prim.Native.Nat.{ℕ, ◌<◌}
+use Prim.Native.Nat.{ℕ, suc, ◌<◌}
 use native.Mathlib.Omega.{arith}
 use lib.Dec.{T, ltb}
 use lib.ListN.{length}
@@ -66,6 +68,17 @@ module _ (s : Shape) (R : Rows16 s.rows) (S : Sound s) (w : Window) (W : Rows16 
 
 -- ---- the answers
 
+abbrev or_0 : Option ℕ → ℕ
+or_0 None = 0
+or_0 (Some n) = n
+
+some_not : (n : ℕ) → Some n ≡ None → ⊥
+some_not n e = absurd (let z : suc n ≡ 0 = ap (λ r. over r) e in omega arith)
+  where
+    over : Option ℕ → ℕ
+    over None = 0
+    over (Some k) = suc k
+
 module _ (s : Shape) (out : List ℕ) where
   -- the first of the two tests that holds
   tests_are : (f b : Bool) → s.fits ≡ f → ltb (length out) 17 ≡ b → first_of (writing_tests s out) ≡ first_of ((8, not f) ∷ (9, b) ∷ [])
@@ -76,21 +89,29 @@ module _ (s : Shape) (out : List ℕ) where
       let t = tests_are false (ltb (length out) 17) e refl in
       record { refused = λ _. (ap (λ n. (n, 0)) (sym t), refl); done = λ z. absurd (omega (arith, sym t ∙ z)) }
 
-  module _ (f : s.fits ≡ true) (words : List ℕ) (e : words ≡ listed (points_of s)) (n : ℕ) (out' : List ℕ) (written : WordsWritten words out n out') where
-    w : WordsWritten (listed (points_of s)) out n out'
-    w = subst (λ ws. WordsWritten ws out n out') e written
+  module _ (f : s.fits ≡ true) (words : List ℕ) (e : words ≡ listed (points_of s)) (r : Option ℕ) (out' : List ℕ) (written : WordsWritten words out r out') where
+    w : WordsWritten (listed (points_of s)) out r out'
+    w = subst (λ ws. WordsWritten ws out r out') e written
 
-    pub write_short : n ≡ 0 → ListAnswered (writing_tests s out) (points_of s) out (Err OutputLength) out'
+    write_short : r ≡ None → ListAnswered (writing_tests s out) (points_of s) out (Err OutputLength) out'
     unfolding listed
     write_short z = ⊎_elim
         (λ l. let t = tests_are true true f (lt-ltb (length out) 17 l) in
         record { refused = λ _. (ap (λ n. (n, 0)) (sym t), (w.short l).1); done = λ z. absurd (omega (arith, sym t ∙ z)) })
-        (λ l. absurd (let k = (w.words l).0 in omega arith))
+        (λ l. absurd (some_not (length (listed (points_of s))) (sym (w.words l).0 ∙ z)))
         (lt_or_le (length out) 17)
 
-    pub write_done : n ≢ 0 → ListAnswered (writing_tests s out) (points_of s) out (Ok n) out'
-    write_done z = ⊎_elim
-        (λ l. absurd (z (w.short l).0))
+    write_done : (n : ℕ) → r ≡ Some n → ListAnswered (writing_tests s out) (points_of s) out (Ok n) out'
+    write_done n z = ⊎_elim
+        (λ l. absurd (some_not n (sym z ∙ (w.short l).0)))
         (λ l. let t = tests_are true false f (le-ltb (length out) 17 l) in
-        record { refused = λ z. absurd (z t); done = λ _. record { answer = ap result (w.words l).0; words = (w.words l).1 } })
+        record { refused = λ z. absurd (z t); done = λ _. record { answer = ap (λ r. result (or_0 r)) (sym z ∙ (w.words l).0); words = (w.words l).1 } })
         (lt_or_le (length out) 17)
+
+    -- the length that was written is the answer, and ground 9 where there is none
+    pub write_answered : ListAnswered (writing_tests s out) (points_of s) out (ok_or r OutputLength) out'
+    write_answered = go r refl
+      where
+        go : (q : Option ℕ) → r ≡ q → ListAnswered (writing_tests s out) (points_of s) out (ok_or q OutputLength) out'
+        go None z = write_short z
+        go (Some n) z = write_done n z

@@ -49,10 +49,7 @@ fn write_shape(s: Shape, out: &mut [u32]) -> Answer
         return Err(Ground::OutOfRange);
     }
     let cells = s.window();
-    match word_steps::write_list(cells.ax, cells.ay, cells.rows, out) {
-        0 => Err(Ground::OutputLength),
-        n => Ok(n),
-    }
+    word_steps::write_list(cells.ax, cells.ay, cells.rows, out).ok_or(Ground::OutputLength)
 }
 
 // Moving: the list of the shape with dx and dy added to x and y of each point.

@@ -4,11 +4,11 @@
 ghost use Rattle.lists.specs.Held.{shape_words, WordsWritten};
 
 // Writes the shape list of an anchor and rows, where there is room for the longest, and answers its length.
-pub fn write_list(ax: u32, ay: u32, rows: [u16; 16], out: &mut [u32]) -> u32
+pub fn write_list(ax: u32, ay: u32, rows: [u16; 16], out: &mut [u32]) -> Option<u32>
     ensures { WordsWritten (shape_words ax ay rows) out.old result out.new }
 {
     if out.len() < 17 {
-        return 0;
+        return None;
     }
     out[0] = 0x1000_0000 + (ay % 16) * 16 + ax % 16;
     let mut n: u32 = 1;
@@ -19,5 +19,5 @@ pub fn write_list(ax: u32, ay: u32, rows: [u16; 16], out: &mut [u32]) -> u32
             n += 1;
         }
     }
-    n
+    Some(n)
 }
