@@ -4,7 +4,7 @@
 #![tactic(auto)]
 
 ghost use Rattle.std.specs.Prelude.{◌≡◌, ℕ, ◌+◌, ◌*◌, ◌≤◌, ◌<◌, get_or};
-ghost use Rattle.edges.specs.Numbers.{FirstFound, LastIn, Greater, Supported, Clipped, Topped, RowTops, Fits, Numbered};
+ghost use Rattle.edges.specs.Numbers.{FirstFound, LastIn, Supported, Topped, RowTops, Fits, Numbered};
 
 // The sixteen directions: (PLUS_X - MINUS_X, PLUS_Y - MINUS_Y).
 const PLUS_X: [u16; 16] = [1, 2, 1, 1, 0, 0, 0, 0, 0, 0, 0, 0, 0, 1, 1, 2];
@@ -28,7 +28,7 @@ const TIMES: [u16; 18] = [4, 1, 3, 1, 4, 1, 3, 1, 4, 1, 3, 1, 4, 1, 3, 1, 0, 0];
 pub fn first_in(row: u16) -> u16
     ensures { FirstFound row result }
 {
-    u16::trailing_zeros(row) as u16
+    row.trailing_zeros() as u16
 }
 
 // The column of the last cell of a row that has one.
@@ -36,17 +36,7 @@ fn last_in(row: u16) -> u16
     requires { 0 < row }
     ensures { LastIn row result }
 {
-    (15 - u16::leading_zeros(row)) as u16
-}
-
-// The greater of a and b.
-fn greater(a: u16, b: u16) -> u16
-    ensures { Greater a b result }
-{
-    if a < b {
-        return b;
-    }
-    a
+    (15 - row.leading_zeros()) as u16
 }
 
 // A direction's value, and 64 more, where it counts ahead at column last and behind at column first.
@@ -67,24 +57,11 @@ fn raised(s: [u16; 16], first: u16, last: u16, y: u16) -> [u16; 16]
     let c = MINUS_X;
     let d = MINUS_Y;
     let mut r = [0u16; 16];
-    let mut i = 0;
-    while i < 16 {
+    for i in 0..16 {
         let v = value(a[i], b[i], c[i], d[i], first, last, y);
-        let g = greater(s[i], v);
-        r[i] = g;
-        i += 1;
+        r[i] = s[i].max(v);
     }
     r
-}
-
-// The rows before n that the window has.
-fn clipped(n: usize) -> usize
-    ensures { Clipped n result }
-{
-    if n < 16 {
-        return n;
-    }
-    16
 }
 
 // The greatest values of the sixteen directions on the cells before row n.
@@ -93,14 +70,12 @@ fn tops(cells: [u16; 16], n: usize) -> [u16; 16]
     ensures { (i : ℕ) → i < 16 → Topped i cells n (get_or result i 0) }
 {
     let mut s = [0u16; 16];
-    let mut y = 0;
-    while y < n {
+    for y in 0..n {
         let row = cells[y];
         if row != 0 {
             let next = raised(s, first_in(row), last_in(row), y as u16);
             s = next;
         }
-        y += 1;
     }
     s
 }
@@ -116,15 +91,10 @@ pub fn greatest_of(cells: [u16; 16]) -> [u16; 16]
 pub fn greatest_in(row: u16, y: u16) -> [u16; 16]
     ensures { RowTops row y result }
 {
-    let none = [0u16; 16];
-    if row == 0 {
-        return none;
+    if row == 0 || 15 < y {
+        return [0u16; 16];
     }
-    if 15 < y {
-        return none;
-    }
-    let s = [0u16; 16];
-    raised(s, first_in(row), last_in(row), y)
+    raised([0u16; 16], first_in(row), last_in(row), y)
 }
 
 // A number by the greatest values s and u of its first and second direction, and t times that of its middle one, m.
@@ -139,7 +109,7 @@ fn number(s: u16, u: u16, m: u16, t: u16) -> u8
 pub fn numbers(cells: [u16; 16], n: usize) -> [u8; 18]
     ensures { Numbered cells n result }
 {
-    let s = tops(cells, clipped(n));
+    let s = tops(cells, n.min(16));
     let mut r = [0u8; 18];
     if s[0] == 0 {
         return r;
@@ -148,16 +118,13 @@ pub fn numbers(cells: [u16; 16], n: usize) -> [u8; 18]
     let second = SECOND;
     let middle = MIDDLE;
     let times = TIMES;
-    let mut i = 0;
-    while i < 18 {
-        let v = number(
+    for i in 0..18 {
+        r[i] = number(
             s[first[i] as usize],
             s[second[i] as usize],
             s[middle[i] as usize],
             times[i],
         );
-        r[i] = v;
-        i += 1;
     }
     r
 }

@@ -4,7 +4,7 @@ use mathlib.Core.Bool.{Bool, ◌&&◌}
 use mathlib.Core.List.{[], ◌∷◌}
 use Prim.Native.Nat.{ℕ, ◌+◌, ◌*◌, ◌<◌, zero-le}
 use native.Mathlib.Omega.{arith}
-use lib.Dec.{T, leb, leb→le, ltb, ltb→lt, eqb, eqb→eq, lit<}
+use lib.Dec.{leb, leb→le, ltb, ltb→lt, eqb, eqb→eq, lit<}
 use lib.ListN.{get_or}
 use Rattle.plane.specs.Lists.{all, up_to}
 use Rattle.plane.proofs.Tests.{T_and}

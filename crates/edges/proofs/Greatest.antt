@@ -3,7 +3,7 @@
 use mathlib.Core.Path.{◌≡◌, refl, sym, ap, subst, ◌∙◌}
 use mathlib.Core.Logic.{◌⊎◌, inl, inr, ⊎_elim}
 use mathlib.Core.List.{List}
-use Prim.Native.Nat.{ℕ, ◌+◌, ◌*◌, ◌≤◌, ◌<◌}
+use Prim.Native.Nat.{ℕ, ◌+◌, ◌*◌, ◌≤◌, ◌<◌, min, max}
 use native.Mathlib.Omega.{arith}
 use native.Mathlib.Nat.{mul-add, mul-le-mul_left}
 use lib.ListN.{get_or, replicate}
@@ -11,9 +11,21 @@ use Rattle.rows.specs.Cells.{At, Same, bit}
 use Rattle.rows.proofs.RowBits.{no_bit}
 use Rattle.rows.proofs.Sums.{Rows16, in_x, in_y, last_or, zero_at}
 use Rattle.edges.specs.Edges.{plus_x, minus_x, ahead, behind, Top, first_direction, second_direction, middle_of, times_of, Number}
+use Rattle.plane.proofs.Tests.{lt_or_le}
 use Rattle.edges.specs.Numbers.{FirstIn, LastIn, Greater, Supported, Attained, Clipped, Topped, RowTopped, Fits, Front, Numbered}
 use Rattle.edges.proofs.Adding.{number_same}
 use Rattle.edges.proofs.Directions.{ahead_small, behind_small, one_way, inside, balance}
+
+-- ---- what max and min answer
+pub greater_is : (a b r : ℕ) → r ≡ max a b → Greater a b r
+greater_is a b r e = record {
+  left = omega arith;
+  right = omega arith;
+  one = ⊎_elim (λ l. inr (omega arith)) (λ l. inl (omega arith)) (lt_or_le a b);
+}
+
+pub clipped_is : (n r : ℕ) → r ≡ min n 16 → Clipped n r
+clipped_is n r e = record { small = omega arith; kept = omega arith; rows = λ y l k. omega arith }
 
 -- ---- a row more
 pub raised_one : (i first last y s v r : ℕ) → v + behind i first y ≡ ahead i last y + 64 → Greater s v r → Supported i first last y s r

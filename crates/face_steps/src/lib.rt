@@ -9,7 +9,7 @@ ghost use Rattle.faces.specs.Faces.{Shadow, Spaced, Fair, FairFaces, NeverSum};
 ghost use Rattle.extents.specs.Extents.{row};
 ghost use Rattle.faces.specs.Bits.{Bits, Indicated, Ends, Two, Lone, Mark, Marked, RowAt, AllFair, Unfair};
 
-// The one step that the rows of a face can have in each direction; 0 where 1 and 2 both can.
+// The one step that the rows of a face can have in each direction; 0 where 1 and 2 both can. Numbers, since `only_of` and `Fair` of specs/ speak of these.
 const ONLY: [u8; 16] = [0, 2, 0, 1, 0, 1, 0, 2, 0, 2, 0, 1, 0, 1, 0, 2];
 
 // The numbers of b with none a step later.

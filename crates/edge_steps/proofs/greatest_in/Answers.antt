@@ -7,10 +7,11 @@ use native.Mathlib.Omega.{arith}
 use Rattle.edge_steps.proofs.greatest_in.Goals as goal
 
 pub returns-then-row-eq0 : goal.returns-then-row-eq0
-returns-then-row-eq0 c = record { some = λ i l p q. absurd (omega arith); none = λ e i. zero_at 16 i }
-
-pub returns-then-y-gt15 : goal.returns-then-y-gt15
-returns-then-y-gt15 c = record { some = λ i l p q. absurd (omega arith); none = λ e i. zero_at 16 i }
+returns-then-row-eq0 c =
+    record {
+      some = λ i l p q. ⊎_elim (λ e. absurd (omega arith)) (λ e. absurd (omega arith)) c.then-row-eq0.either;
+      none = λ e i. zero_at 16 i;
+    }
 
 pub raised-requires : goal.raised-requires
 raised-requires c = (

@@ -12,7 +12,7 @@ use Rattle.edge_steps.proofs.tops.Goals.{then-row-ne0, else-row-ne0}
 use Rattle.edge_steps.proofs.tops.Goals as goal
 
 pub loop-y-init : goal.loop-y-init
-loop-y-init c = (omega arith, λ i l. subst (Topped i c.args.cells 0) (sym (zero_at 16 i)) (topped_none i c.args.cells))
+loop-y-init c = λ i l. subst (Topped i c.args.cells 0) (sym (zero_at 16 i)) (topped_none i c.args.cells)
 
 pub raised-next-requires : goal.raised-next-requires
 raised-next-requires c =
@@ -27,18 +27,15 @@ pub loop-y-preserved : goal.loop-y-preserved
 loop-y-preserved c =
     let h = c.loop-y in
     let cells = c.args.cells in
-    let y = h.y in (
-      omega arith,
-      elim c.if-row-ne0.branch [
-        | then-row-ne0 w ↦ λ i l. subst (λ (s : List ℕ). Topped i cells (y + 1) (get_or s i 0)) (sym w.s-is)
-            (topped_row i cells l y _ _ (w.first_in.ensures.some (omega (arith, w.if-row-ne0.true))) w.last_in.ensures _ _ (h.invariant.1 i l) (w.raised-next.ensures i l))
-        | else-row-ne0 w ↦ λ i l. subst (λ (s : List ℕ). Topped i cells (y + 1) (get_or s i 0)) (sym w.s-is) (topped_skip i cells y _ w.if-row-ne0.false (h.invariant.1 i l))
-      ],
-    )
+    let y = h.y in
+    elim c.if-row-ne0.branch [
+      | then-row-ne0 w ↦ λ i l. subst (λ (s : List ℕ). Topped i cells (y + 1) (get_or s i 0)) (sym w.s-is)
+          (topped_row i cells l y _ _ (w.first_in.ensures.some (omega (arith, w.if-row-ne0.true))) w.last_in.ensures _ _ (h.invariant i l) (w.raised-next.ensures i l))
+      | else-row-ne0 w ↦ λ i l. subst (λ (s : List ℕ). Topped i cells (y + 1) (get_or s i 0)) (sym w.s-is) (topped_skip i cells y _ w.if-row-ne0.false (h.invariant i l))
+    ]
 
 pub returns : goal.returns
 returns c =
     let h = c.loop-y in
-    let st = c in
-    let e : h.y ≡ st.args.n = omega arith in
-    λ i l. subst (λ (k : ℕ). Topped i st.args.cells k (get_or h.s i 0)) e (h.invariant.1 i l)
+    let e : h.y ≡ c.args.n = omega arith in
+    λ i l. subst (λ (k : ℕ). Topped i c.args.cells k (get_or h.s i 0)) e (h.invariant i l)
