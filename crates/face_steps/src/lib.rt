@@ -9,8 +9,7 @@ ghost use Rattle.faces.specs.Faces.{Shadow, Spaced, Fair, FairFaces, NeverSum};
 ghost use Rattle.extents.specs.Extents.{row};
 ghost use Rattle.faces.specs.Bits.{Bits, Indicated, Ends, Two, Lone, Mark, Marked, RowAt, AllFair, Unfair};
 
-// The one step that the rows of a face can have in each direction; 0 where 1 and 2 both can. Numbers, since `only_of` and `Fair` of specs/ speak of these: an
-// Option here would say the same once more.
+// The one step that the rows of a face can have in each direction; 0 where 1 and 2 both can.
 const ONLY: [u8; 16] = [0, 2, 0, 1, 0, 1, 0, 2, 0, 2, 0, 1, 0, 1, 0, 2];
 
 // The numbers of b with none a step later.
@@ -26,7 +25,10 @@ fn lone(b: u16) -> bool
     ensures yes { result ≡ true → Lone b }
     ensures no { result ≡ false → Two b }
 {
-    b == 0 || b >> (edge_steps::first_in(b) as u32) == 1
+    if b == 0 {
+        return true;
+    }
+    b >> (edge_steps::first_in(b) as u32) == 1
 }
 
 // Whether b is spaced by the step: then only its greatest number has none a step later.
@@ -43,7 +45,15 @@ fn fair(b: u16, only: u8) -> bool
     ensures yes { result ≡ true → Fair only (Bits b) }
     ensures no { result ≡ false → Fair only (Bits b) → ⊥ }
 {
-    (only != 2 && spaced(b, 1)) || (only != 1 && spaced(b, 2))
+    if only != 2 {
+        if spaced(b, 1) {
+            return true;
+        }
+    }
+    if only != 1 {
+        return spaced(b, 2);
+    }
+    false
 }
 
 // 1 where s and v are the same, else 0.
@@ -59,9 +69,11 @@ fn marked(b: [u16; 16], s: [u16; 16], v: [u16; 16], y: u32) -> [u16; 16]
     ensures { (i : ℕ) → i < 16 → Marked (get_or b i 0) (get_or s i 0) (get_or v i 0) y (get_or result i 0) }
 {
     let mut r = [0u16; 16];
-    for i in 0..16 {
+    let mut i = 0;
+    while i < 16 {
         let m = mark(s[i], v[i]);
         r[i] = b[i] | (m << y);
+        i += 1;
     }
     r
 }
@@ -72,12 +84,14 @@ fn face_rows(cells: [u16; 16]) -> [u16; 16]
 {
     let s = edge_steps::greatest_of(cells);
     let mut r = [0u16; 16];
-    for y in 0..16 {
+    let mut y = 0;
+    while y < 16 {
         let row = cells[y];
         if row != 0 {
             let next = marked(r, s, edge_steps::greatest_in(row, y as u16), y as u32);
             r = next;
         }
+        y += 1;
     }
     r
 }
@@ -87,10 +101,9 @@ fn row_at(cells: [u16; 16], b: u16) -> u16
     ensures { RowAt cells b result }
 {
     if b == 0 {
-        0
-    } else {
-        cells[edge_steps::first_in(b) as usize]
+        return 0;
     }
+    cells[edge_steps::first_in(b) as usize]
 }
 
 // Whether the rows of each face are spaced as those of a sum of masks.
@@ -99,10 +112,12 @@ fn all_fair(rows: [u16; 16]) -> bool
     ensures no { result ≡ false → Unfair rows }
 {
     let only = ONLY;
-    for i in 0..16 {
+    let mut i = 0;
+    while i < 16 {
         if !fair(rows[i], only[i]) {
             return false;
         }
+        i += 1;
     }
     true
 }
@@ -114,5 +129,11 @@ pub fn may_be_sum(cells: [u16; 16]) -> bool
     ensures no { result ≡ false → NeverSum (At cells) }
 {
     let rows = face_rows(cells);
-    fair(row_at(cells, rows[4]), 0) && fair(row_at(cells, rows[12]), 0) && all_fair(rows)
+    if !fair(row_at(cells, rows[4]), 0) {
+        return false;
+    }
+    if !fair(row_at(cells, rows[12]), 0) {
+        return false;
+    }
+    all_fair(rows)
 }

@@ -5,7 +5,7 @@ use native.Mathlib.Omega.{arith}
 use Rattle.face_steps.proofs.all_fair.Goals as goal
 
 pub loop-i-init : goal.loop-i-init
-loop-i-init c = λ k l. absurd (omega arith)
+loop-i-init c = (omega arith, λ k l. absurd (omega arith))
 
 pub returns-then-not-fair : goal.returns-then-not-fair
 unfolding only_of
@@ -17,7 +17,7 @@ pub loop-i-preserved : goal.loop-i-preserved
 unfolding only_of
 loop-i-preserved c =
     let h = c.loop-i in
-    below_more _ h.i h.invariant (c.fair.ensures.yes (c.if-not-fair.false))
+    (omega arith, below_more _ h.i h.invariant.1 (c.fair.ensures.yes (c.if-not-fair.false)))
 
 pub returns : goal.returns
-returns c = record { yes = λ e. record { fair = λ i l. c.loop-i.invariant i (omega arith) }; no = λ e. absurd (true≢false e) }
+returns c = record { yes = λ e. record { fair = λ i l. c.loop-i.invariant.1 i (omega arith) }; no = λ e. absurd (true≢false e) }

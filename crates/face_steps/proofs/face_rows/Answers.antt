@@ -11,7 +11,7 @@ use Rattle.face_steps.proofs.face_rows.Goals.{then-row-ne0, else-row-ne0}
 use Rattle.face_steps.proofs.face_rows.Goals as goal
 
 pub loop-y-init : goal.loop-y-init
-loop-y-init c = λ i l. subst (RowsTo i _ _ 0) (sym (zero_at 16 i)) (rows_none i _ _)
+loop-y-init c = (omega arith, λ i l. subst (RowsTo i _ _ 0) (sym (zero_at 16 i)) (rows_none i _ _))
 
 pub loop-y-preserved : goal.loop-y-preserved
 loop-y-preserved c =
@@ -20,12 +20,14 @@ loop-y-preserved c =
     let cells = st.args.cells in
     let s = st.greatest_of-s in
     let y = h.y in
-    let to : (i : ℕ) → List ℕ → Type 0 = λ i r. RowsTo i cells (get_or s.result i 0) (y + 1) (get_or r i 0) in
-    elim c.if-row-ne0.branch [
-      | then-row-ne0 w ↦ λ i l. let v = w.greatest_in.ensures.some i l (omega (arith, w.if-row-ne0.true)) (omega arith) in
-          subst (to i) (sym w.r-is) (rows_more i cells _ (s.ensures i l) y _ _ _ (omega arith) v (h.invariant i l) (w.marked-next.ensures i l))
-      | else-row-ne0 w ↦ λ i l. subst (to i) (sym w.r-is) (rows_skip i cells _ y _ w.if-row-ne0.false (h.invariant i l))
-    ]
+    let to : (i : ℕ) → List ℕ → Type 0 = λ i r. RowsTo i cells (get_or s.result i 0) (y + 1) (get_or r i 0) in (
+      omega arith,
+      elim c.if-row-ne0.branch [
+        | then-row-ne0 w ↦ λ i l. let v = w.greatest_in.ensures.some i l (omega (arith, w.if-row-ne0.true)) (omega arith) in
+            subst (to i) (sym w.r-is) (rows_more i cells _ (s.ensures i l) y _ _ _ (omega arith) v (h.invariant.1 i l) (w.marked-next.ensures i l))
+        | else-row-ne0 w ↦ λ i l. subst (to i) (sym w.r-is) (rows_skip i cells _ y _ w.if-row-ne0.false (h.invariant.1 i l))
+      ],
+    )
 
 pub returns : goal.returns
 returns c =
@@ -35,4 +37,4 @@ returns c =
     let s = st.greatest_of-s in
     let e : h.y ≡ 16 = omega arith in
     λ i l. rows_done i cells _ (rows16 cells _ st.well_formed.0) l (s.ensures i l) _
-    (subst (λ (k : ℕ). RowsTo i cells (get_or s.result i 0) k (get_or h.r i 0)) e (h.invariant i l))
+    (subst (λ (k : ℕ). RowsTo i cells (get_or s.result i 0) k (get_or h.r i 0)) e (h.invariant.1 i l))

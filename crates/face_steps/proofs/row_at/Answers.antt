@@ -10,5 +10,5 @@ returns-then-b-eq0 c = record { none = λ e. refl; some = λ l. absurd (omega ar
 pub bounds-cells-first_in : goal.bounds-cells-first_in
 bounds-cells-first_in c = omega (arith, bit_in 16 _ _ (omega arith) (c.first_in.ensures.some (omega arith)).cell)
 
-pub returns-else-b-eq0 : goal.returns-else-b-eq0
-returns-else-b-eq0 c = record { none = λ e. absurd (omega arith); some = λ l. (c.first_in.result, (c.first_in.ensures.some l, refl)) }
+pub returns : goal.returns
+returns c = record { none = λ e. absurd (omega arith); some = λ l. (c.first_in.result, (c.first_in.ensures.some l, refl)) }
