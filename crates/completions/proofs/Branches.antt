@@ -52,9 +52,6 @@ equal_or m s = on (ℕ_discrete s m)
 -- ---- the masks of a list, tried from the last
 
 module _ (permitted : ℕ → Bool) (A Y : Cells) (xs : List ℕ) (n k : ℕ) where
-  pub spent_none : Spent permitted A Y xs n n k
-  spent_none = record { left = λ L f a l. a; gone = λ j p q. absurd (omega arith) }
-
   -- the mask at r was tried, over the list up to it
   module _ (r : ℕ) (l : r < n) (t : Spent permitted A Y xs n (suc r) k) (no : NoneThrough permitted A Y xs (suc r) k (get_or xs r 0)) where
     here_gone : NoneThrough permitted A Y xs n k (get_or xs r 0)

@@ -22,16 +22,6 @@ pub record FittedTo (nums need cand list : List ℕ) (n j : ℕ) : Type 0 where
   pub fit : (m : ℕ) → Among list n m → (m < 512) × Fit (number_in nums) need m
 
 module _ (nums need cand : List ℕ) where
-  pub fitted_none : (list : List ℕ) → length list ≡ 512 → FittedTo nums need cand list 0 0
-  fitted_none list l = record {
-    few = omega arith;
-    long = l;
-    all = λ m b a f. let c = a.before in absurd (omega arith);
-    only = λ m a. let c = a.before in
-        absurd (omega arith);
-    fit = λ m a. let c = a.before in absurd (omega arith);
-  }
-
   pub fitted_more : (list : List ℕ) (n j k v : ℕ) → j < 512 → v ≡ get_or cand j 0 → k ≤ 1 → (1 ≤ k → (v < 512) × Fit (number_in nums) need v)
       → (v < 512 → Fit (number_in nums) need v → 1 ≤ k)
       → FittedTo nums need cand list n j → FittedTo nums need cand (set list n v) (n + k) (j + 1)
@@ -68,17 +58,6 @@ pub record SplitTo (nums xs : List ℕ) (i : ℕ) (list other : List ℕ) (p q j
   pub having : (m : ℕ) → Among other q m → 0 < number_in nums i m
 
 module _ (nums xs : List ℕ) (i : ℕ) where
-  pub split_none : (list other : List ℕ) → length list ≡ 512 → length other ≡ 512 → SplitTo nums xs i list other 0 0 0
-  split_none list other l o = record {
-    few = omega arith;
-    list_long = l;
-    other_long = o;
-    all = λ m b a. let c = a.before in absurd (omega arith);
-    only = λ m a. ⊎_elim (λ w. let c = w.before in absurd (omega arith)) (λ w. let c = w.before in absurd (omega arith)) a;
-    without = λ m b a. let c = a.before in absurd (omega arith);
-    having = λ m a. let c = a.before in absurd (omega arith);
-  }
-
   -- k is 1 where v has the number, and 0 where it has not
   pub split_more : (list other : List ℕ) (p q j k v : ℕ) → j < 512 → v ≡ get_or xs j 0 → k ≤ 1 → (1 ≤ k → 0 < number_in nums i v)
       → (k ≡ 0 → v < 512 → number_in nums i v ≡ 0)
@@ -125,17 +104,6 @@ pub record AppendedTo (list₀ list other : List ℕ) (p t : ℕ) : Type 0 where
   pub only : (m : ℕ) → Among list (p + t) m → Among list₀ p m ⊎ Among other t m
 
 module _ (list₀ other : List ℕ) (p : ℕ) where
-  pub appended_none : length list₀ ≡ 512 → AppendedTo list₀ list₀ other p 0
-  appended_none l = record {
-    long = l;
-    first = λ m a. a;
-    back = λ m a. a;
-    behind = λ m a. let c = a.before in absurd (omega arith);
-    after = λ u l. absurd
-        (omega arith);
-    only = λ m a. inl (among_more list₀ (p + 0) p m (omega arith) a);
-  }
-
   pub appended_more : (list : List ℕ) (t : ℕ) → p + t < 512 → AppendedTo list₀ list other p t → AppendedTo list₀
       (set list (p + t) (get_or other t 0)) other p (t + 1)
   appended_more list t l h = record {

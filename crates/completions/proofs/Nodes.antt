@@ -2,7 +2,7 @@
 use mathlib.Core.Path.{◌≡◌, refl, sym, subst, ◌∙◌}
 use mathlib.Core.Bool.{Bool}
 use mathlib.Core.List.{List}
-use Prim.Native.Nat.{ℕ, zero, suc, ◌+◌, ◌-◌, ◌*◌, ◌≤◌, ◌<◌}
+use Prim.Native.Nat.{ℕ, suc, ◌+◌, ◌-◌, ◌*◌, ◌≤◌, ◌<◌}
 use native.Mathlib.Omega.{arith}
 use lib.Dec.{T}
 use lib.ListN.{length, get_or, take, length-take}
@@ -15,7 +15,7 @@ use Rattle.completions.specs.Completing.{NoneHere, NoneBefore, NoSum}
 use Rattle.completions.specs.Pools.{Parts}
 use Rattle.completions.proofs.Loops.{among_more}
 use Rattle.completions.proofs.Stepping.{below_fills}
-use Rattle.completions.proofs.Branches.{spent_none, spent_more, none_below, passed_over, replaced_gone, branch_end, drawn, too_few}
+use Rattle.completions.proofs.Branches.{spent_more, none_below, passed_over, replaced_gone, branch_end, drawn, too_few}
 
 -- ---- a part of a list
 
@@ -48,12 +48,6 @@ module _ (nums : List ℕ) (here : Here) (cand : List ℕ) (k : ℕ) where
   -- of the masks of a list those from r on were tried, whichever masks are permitted
   pub record Turned (xs : List ℕ) (r : ℕ) : Type 0 where
     pub spent : (permitted : ℕ → Bool) → Ready permitted nums here → Allowed permitted xs → Spent permitted (aim_of here) Y xs (length xs) r k
-
-  pub turned_none : (xs : List ℕ) (r : ℕ) → r ≡ length xs → Turned xs r
-  turned_none xs r e = record {
-    spent = λ permitted s a. subst (λ (j : ℕ). Spent permitted (aim_of here) Y xs (length xs) j k) (sym e)
-        (spent_none permitted (aim_of here) Y xs (length xs) k);
-  }
 
   pub turned_more : (xs : List ℕ) (j : ℕ) → j < length xs → Turned xs (j + 1) → NoneBefore nums here xs (j + 1) k → Turned xs j
   turned_more xs j l t h = record {
@@ -150,9 +144,3 @@ pub no_sum : (cells need nums cand path : List ℕ) (k : ℕ) → NoneHere nums
     (record { target = cells; rest = cells; path = path; len = 0; need = need }) cand k → NoSum cells need nums cand k
 unfolding chosen
 no_sum cells need nums cand path k h = record { no = λ permitted m o. h.no permitted (record { known = m; state = o }) }
-
--- where a width or a height is needed, and k masks may reach it, k is not 0
-pub some_left : (w h k : ℕ) → (w ≡ 0 → h ≡ 0 → ⊥) → w ≤ 2 * k → h ≤ 2 * k → 0 < k
-some_left zero zero k f p q = absurd (f refl refl)
-some_left zero (suc h) k f p q = omega arith
-some_left (suc w) h k f p q = omega arith

@@ -1,21 +1,12 @@
 -- What the plain search is answered: the state below, or why k masks of the list or fewer do not complete the sum with the mask.
 use mathlib.Core.List.{List}
 use Prim.Native.Nat.{ℕ}
-use native.Mathlib.Omega.{arith}
 use Rattle.completions.specs.declared.Here.{Here}
-use Rattle.completions.specs.Completing.{Below, Passed, NoneHere}
-use Rattle.completions.specs.Opening.{Roomy, Shut}
+use Rattle.completions.specs.Completing.{Below, NoneHere}
+use Rattle.completions.specs.Opening.{Shut}
 use Rattle.completions.proofs.Stepping.{below_fills}
 
 module _ (nums cand : List ℕ) (here : Here) (m k : ℕ) where
-  -- out of bounds
-  pub shut_outside : (Roomy cand here.len k → ⊥) → Shut nums cand here m k
-  shut_outside f = record { no = λ r. absurd (f r) }
-
-  -- the mask is passed over
-  pub shut_passed : Passed nums here m → Shut nums cand here m k
-  shut_passed s = record { no = λ room permitted r a t L f b q. let p = room.path in s.no (omega arith) permitted r t L f }
-
   -- nothing completes the sum below
   pub shut_none : (c : Here) → Below nums here m c → NoneHere nums c cand k → Shut nums cand here m k
   shut_none c b h = record {

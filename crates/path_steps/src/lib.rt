@@ -102,5 +102,10 @@ pub fn replaced(t: [u16; 16], list: &[u16], r: usize, m: u16) -> Option<usize>
     ensures { IfSome result (λ p. (p < length list.now) × ((r ≤ p) × ((i j : ℕ) → AtMask m i j → Replaces (At t) m (get_or list.now p 0)))) }
 {
     let own = mask_steps::shrunk(t, m);
-    (r..list.len()).find(|p| replaces(t, own, m, list[*p]))
+    for p in r..list.len() {
+        if replaces(t, own, m, list[p]) {
+            return Some(p);
+        }
+    }
+    None
 }

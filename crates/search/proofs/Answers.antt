@@ -14,14 +14,10 @@ use lib.Seq.{get_or-set_other}
 use Rattle.plane.specs.Lists.{all}
 use Rattle.plane.proofs.Tests.{T_and, not_or, not_ltb, clash}
 use Rattle.masks.specs.Chain.{falling, smaller}
-use Rattle.masks.specs.Mask.{stage}
-use Rattle.masks.proofs.Cells.{stage_below}
 use Rattle.rows.specs.Cells.{Cells, Same, Sum, At, AtMask, AtSum, chosen}
 use Rattle.search.specs.Tree.{Completes, Line, FirstLine, NoneFirst, Narrowed}
-use Rattle.search.specs.Asking.{Ended}
 use Rattle.completions.specs.declared.Here.{Here}
-use Rattle.completions.specs.Completing.{Among, aim_of, partial_sum, Ready, Below, Allowed}
-use Rattle.completions.specs.Opening.{Roomy}
+use Rattle.completions.specs.Completing.{aim_of, partial_sum, Below}
 use Rattle.rows.proofs.Chosen.{chosen_set}
 use Rattle.rows.proofs.Addition.{same_refl, same_sym, same_trans, sum_both, sum_comm, sum_assoc, sum_origin}
 
@@ -80,9 +76,6 @@ module _ (permitted : ℕ → Bool) where
     -- ---- the masks in turn
 
     module _ (k m : ℕ) (p : 0 < k) where
-      pub passed_none : Narrowed permitted A Y k m m
-      passed_none = record { from = le_refl m; later = λ ns l c. c }
-
       -- mask i is not permitted, or no list has it first
       pub passed_more : (i : ℕ) → Narrowed permitted A Y k m i → (T (permitted i) → NoneFirst permitted A Y k i) → Narrowed permitted A Y k m (i + 1)
       passed_more i P shut = record { from = omega (arith, P.from); later = λ ns l c. go ns l (P.later ns l c) }
@@ -110,15 +103,6 @@ module _ (permitted : ℕ → Bool) where
         first = λ ns l c. a.first ns l (P.later ns l c);
         past = a.past;
       }
-
-      -- no mask is left
-      pub passed_all : (i : ℕ) → ((n : ℕ) → T (permitted n) → T (stage n)) → Narrowed permitted A Y k m i → 512 ≤ i
-          → (ns : List ℕ) → length ns ≡ k → Completes permitted A Y m ns → ⊥
-      passed_all i st P q ns l c = go ns l (P.later ns l c)
-        where
-          go : (ns : List ℕ) → length ns ≡ k → Completes permitted A Y i ns → ⊥
-          go [] l c = let r : 0 ≡ k = l in omega arith
-          go (s ∷ ns) l c = let h = head i s ns c in let b = stage_below s (st s h.1) in omega (arith, h.0)
 
     -- ---- a stage put before what completes the sum below it
 
@@ -154,12 +138,6 @@ module _ (permitted : ℕ → Bool) where
 module _ (permitted : ℕ → Bool) (nums cand : List ℕ) (here : Here) (k m : ℕ) where
   abbrev Y : Cells
   Y = partial_sum here
-
-  -- no list has m first
-  pub below_none : Ended nums cand here (k - 1) m → Roomy cand here.len (k - 1) → Ready permitted nums here → Allowed permitted cand
-      → ((s : ℕ) → T (permitted s) → Among cand (length cand) s)
-      → T (permitted m) → NoneFirst permitted (aim_of here) Y k m
-  below_none b room s a every pm ns l c = b.no room permitted s a every pm ns l c.stages c.sum
 
   module _ (r : Here) (b : Below nums here m r) (p : 0 < k) (pm : T (permitted m)) (o : Option (List ℕ))
       (a : FirstLine permitted (aim_of r) (partial_sum r) (k - 1) m o) where

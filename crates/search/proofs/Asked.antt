@@ -1,5 +1,5 @@
 -- The list and the table that the quick search is asked with, a mask at a time; and what its answer says of lists that sum to the cells.
-use mathlib.Core.Path.{◌≡◌, refl, sym, subst, ◌∙◌}
+use mathlib.Core.Path.{◌≡◌, sym, subst, ◌∙◌}
 use mathlib.Core.Bool.{false}
 use mathlib.Core.Logic.{⊎_elim}
 use mathlib.Core.List.{List}
@@ -23,9 +23,6 @@ use Rattle.search.specs.Asking.{Drawn, Stored, Tabled}
 use Rattle.search.proofs.Reaches.{mask_reach}
 
 -- ---- the list
-
-pub drawn_none : (marks list : List ℕ) → length list ≡ 512 → Drawn marks 0 list 0
-drawn_none marks list l = record { few = omega arith; long = l; all = λ s b t. absurd (omega arith); only = λ s a. let c = a.before in absurd (omega arith) }
 
 module _ (marks list : List ℕ) (n m : ℕ) (l : m < 512) (d : Drawn marks m list n) where
   pub drawn_more : T (tries marks m) → Drawn marks (m + 1) (set list n m) (n + 1)
@@ -61,9 +58,6 @@ module _ (marks list : List ℕ) (n m : ℕ) (l : m < 512) (d : Drawn marks m li
 -- ---- the table
 
 module _ (table : List ℕ) (m : ℕ) (numbers : List ℕ) where
-  pub stored_none : Stored table m numbers 0 table
-  stored_none = record { long = refl; new = λ k l. absurd (omega arith); kept = λ s k l b. refl }
-
   pub stored_more : (i : ℕ) (t : List ℕ) → i < 18 → m < 512 → length table ≡ 9216 → Stored table m numbers i t → Stored table m numbers (i + 1)
       (set t (m * 18 + i) (get_or numbers i 0))
   stored_more i t l b len h =
@@ -76,9 +70,6 @@ module _ (table : List ℕ) (m : ℕ) (numbers : List ℕ) where
             (get_or-set_same t (m * 18 + i) v 0 (omega arith));
         kept = λ s k q w. get_or-set_other t (m * 18 + i) (s * 18 + k) v 0 (λ e. omega arith) ∙ h.kept s k q w;
       }
-
-pub tabled_none : (marks table : List ℕ) → length table ≡ 9216 → Tabled marks 0 table
-tabled_none marks table l = record { long = l; at = λ s b t. absurd (omega arith) }
 
 module _ (marks table : List ℕ) (m : ℕ) (h : Tabled marks m table) where
   pub tabled_skip : (T (tries marks m) → ⊥) → Tabled marks (m + 1) table
