@@ -9,6 +9,9 @@ ghost use Rattle.print_calls.specs.Answers.{Answers, PageShows};
 use text::{Page, Reading};
 use words::Answer;
 
+// So many words of the input are kept.
+const KEPT: usize = 18;
+
 // The page of an answer that planning gave, with the output list as it left it.
 fn shown(answer: Answer, out: [u32; 32]) -> Page
     ensures text { PageShows answer out (take result.n result.bytes) }
@@ -37,7 +40,7 @@ pub fn page(s: Reading) -> Page
     ensures room { result.n ≤ 288 }
     ensures past { Blank result }
 {
-    if s.bad || s.digits > 0 || s.count > 18 {
+    if s.bad || s.digits > 0 || s.count > KEPT {
         return page_steps::unreadable_page();
     }
     planned(&s.words[..s.count])
