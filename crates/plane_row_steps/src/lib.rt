@@ -29,7 +29,8 @@ fn first_row(d: &mut [u8], s: &[u8], o: usize, mask: u16, erode: bool)
     }
 }
 
-// A mask's row 2, or 1, joined to what stands in d: bytes of s from o on, and those c after them. Inlined, so that the row and the kind are constants of the pass.
+// A mask's row 2, or 1, joined to what stands in d: bytes of s from o on, and those c after them. Inlined, so that the row and the kind are constants of
+// the pass.
 #[inline(always)]
 fn next_row(d: &mut [u8], s: &[u8], o: usize, c: usize, mask: u16, second: bool, erode: bool)
     requires { length d.old + (o + 2 + c) ≤ length s.now }
