@@ -1,5 +1,5 @@
 -- What a cut reads, row by row: a row of the source and the cells beside it; the rows above and below the source; and all rows, one after the other.
-use mathlib.Core.Path.{◌≡◌, refl, sym, ap, ap₂, ◌∙◌, subst}
+use mathlib.Core.Path.{◌≡◌, sym, ap, ap₂, ◌∙◌, subst}
 use mathlib.Core.Logic.{⊎_elim}
 use mathlib.Core.List.{List}
 use Prim.Native.Nat.{ℕ, suc, ◌+◌, ◌-◌, ◌*◌, ◌<◌, ◌≤◌, zero-le}
@@ -7,7 +7,7 @@ use native.Mathlib.Nat.{add-mul, mul_comm, mul-le-mul_right, le_trans, le_of_lt,
 use native.Mathlib.Omega.{arith}
 use lib.IntN.{ℤ, pos, neg_ℤ, ◌-ℤ◌, +ℤ_assoc}
 use lib.ListN.{length, get_or}
-use borrow.Rule.Slice.PartMut.{mid_of, put_mid, mid_len}
+use borrow.Rule.Slice.PartMut.{mid_of, put_mid}
 use borrow.Author.Tests.{lt-ltb, le-ltb, le-leb, lt-leb}
 use Rattle.plane.specs.Point.{◌+ᵖ◌}
 use Rattle.plane.proofs.Integer.{diff_ge, diff_lt}
@@ -46,10 +46,6 @@ module _ {n a m e : ℕ} (q : Edge n a m e) where
 -- where two edges leave cells between them, the first of these is in the row, and so is the last
 pub between : {n a m p e : ℕ} → Edge n a 15 p → Edge n a m e → p < e → (15 ≤ p + a) × (e + a ≤ m)
 between hp he l = (let u = he.all in hp.next (omega arith), he.last (omega arith))
-
--- so the part of the row begins within it
-pub part_begins : {n a m p e : ℕ} → Edge n a 15 p → Edge n a (m + 15) e → p < e → p + a - 15 ≤ m
-part_begins hp he l = let s = between hp he l in omega arith
 
 -- the cell of the part, and that of the row
 part_index : (p a k : ℕ) → 15 ≤ p + a → p ≤ k → p + a - 15 + (k - p) ≡ k + a - 15
@@ -90,17 +86,6 @@ three_runs v m a c d {p} {e} hp he l f₁ f₂ f₃ =
     let r₂ = f₂ (le_of_lt l) (omega (arith, r₁.len, he.all)) (omega (arith, s.0, s.1)) in
     let r₃ = ranged_part {a = e} {e = length d} he.all (omega (arith, r₁.len, r₂.len)) f₃ in
     line_is v m c hp he l r₁ r₂ r₃
-
--- the second part is no longer than what is left of the row
-pub run_fits : (v a : ℕ) (row d : List ℕ) {p e : ℕ} {y₁ : List ℕ} → Edge (length d) a 15 p → Edge (length d) a (length row + 15) e → p < e
-    → Ranged 0 0 (length (mid_of 0 (p - 0) d)) (λ _. v) (mid_of 0 (p - 0) d) y₁
-    → length (mid_of p (e - p) (put_mid 0 (p - 0) d y₁)) ≤ length (mid_of (p + a - 15) (length row - (p + a - 15)) row)
-run_fits v a row d {p} {e} {y₁} hp he l f₁ =
-    let s = between hp he l in
-    let r₁ = ranged_part {a = 0} {e = p} {xs = d} zero-le hp.all f₁ in
-    let x = mid_len p e (put_mid 0 (p - 0) d y₁) (omega (arith, r₁.len, he.all)) in
-    let y = mid_len (p + a - 15) (length row) row (omega arith) in
-    omega (arith, s.0, s.1, x, y)
 
 -- ---- the source, and the cells outside it
 
@@ -145,9 +130,6 @@ module _ (v C R : ℕ) (g : List ℕ) (s t : ℕ) where
 -- ---- all rows
 
 module _ {F : ℕ → ℕ → ℕ} {w : ℕ} where
-  pub laid_none : (d : List ℕ) → Laid F w 0 d d
-  laid_none d = record { len = refl; at = λ x y lx ly. absurd (omega arith); past = λ k l. refl }
-
   -- one row more, where its place is known by an equation
   pub laid_more : {r p : ℕ} {d d' d'' : List ℕ} → p ≡ r * w → Laid F w r d d' → Ranged 0 p (p + w) (λ k. F (k - p) r) d' d'' → Laid F w (r + 1) d d''
   laid_more {r} {p} {d} {d'} {d''} e t s = record {

@@ -1,4 +1,3 @@
 pub mod CutRows
-pub mod Sizing
 pub mod OnGrids
 pub mod Examples

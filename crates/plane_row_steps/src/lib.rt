@@ -29,7 +29,9 @@ fn first_row(d: &mut [u8], s: &[u8], o: usize, mask: u16, erode: bool)
     }
 }
 
-// A mask's row 2, or 1, joined to what stands in d: bytes of s from o on, and those c after them.
+// A mask's row 2, or 1, joined to what stands in d: bytes of s from o on, and those c after them. Inlined, so that the row and the kind are constants of
+// the pass.
+#[inline(always)]
 fn next_row(d: &mut [u8], s: &[u8], o: usize, c: usize, mask: u16, second: bool, erode: bool)
     requires { length d.old + (o + 2 + c) ≤ length s.now }
     ensures { Bitted 0 (length d.old) (next_bit erode d.old s.now o c mask (mask_row_of second))

@@ -1,5 +1,5 @@
 -- Pads written row by row, the first two bytes of each row.
-use mathlib.Core.Path.{◌≡◌, refl, ap, ◌∙◌}
+use mathlib.Core.Path.{◌≡◌, ap, ◌∙◌}
 use mathlib.Core.Logic.{◌⊎◌, inl, inr, ⊎_elim}
 use mathlib.Core.List.{List}
 use Prim.Native.Nat.{ℕ, ◌+◌, ◌*◌, ◌<◌, ◌≤◌}
@@ -9,9 +9,6 @@ use lib.Seq.{get_or-set_same, get_or-set_other}
 use Rattle.plane.proofs.Tests.{lt_or_le}
 use Rattle.ranges.proofs.FlatRows.{rows_apart, flat_inj}
 use Rattle.plane_stage_steps.specs.Bounds.{Padded}
-
-pub padded_none : (s v : ℕ) (d : List ℕ) → Padded s 0 v d d
-padded_none s v d = record { len = refl; at = λ r x l u. absurd (omega arith); rest = λ r x l u. refl; below = λ k l. refl; above = λ k l. refl }
 
 -- two stores at the head of the next row
 module _ {s n v : ℕ} {d d' : List ℕ} (p : ℕ) (e : p ≡ (n + 1) * s) (h : 2 ≤ s) (t : Padded s n v d d') (l : (n + 1) * s + 2 ≤ length d) where

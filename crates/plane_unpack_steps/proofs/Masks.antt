@@ -1,12 +1,23 @@
 -- A bit of a byte, by the byte of which it alone is set.
-use mathlib.Core.Path.{◌≡◌, ◌∙◌, ap, subst}
-use Prim.Native.Nat.{ℕ, ◌+◌, ◌*◌, ◌^◌, ◌<◌, ◌≤◌}
+use mathlib.Core.Path.{◌≡◌, refl, ◌∙◌, ap, subst}
+use Prim.Native.Nat.{ℕ, zero, suc, ◌+◌, ◌-◌, ◌*◌, ◌/◌, ◌^◌, ◌<◌, ◌≤◌}
 use native.Mathlib.Omega.{arith}
 use lib.Bits.{bit_and, and_le_r}
 use mathlib.Core.Logic.{⊎_elim}
 use Rattle.plane.proofs.Tests.{lt_or_le}
 use Rattle.rows.specs.Cells.{bit}
 use Rattle.rows.proofs.RowBits.{bit_and_lem, bit_shl, bit_past}
+
+pub mask_is : (j : ℕ) → j < 8 → 128 / 2 ^ (7 - j) ≡ 2 ^ j
+mask_is zero l = refl
+mask_is (suc zero) l = refl
+mask_is (suc (suc zero)) l = refl
+mask_is (suc (suc (suc zero))) l = refl
+mask_is (suc (suc (suc (suc zero)))) l = refl
+mask_is (suc (suc (suc (suc (suc zero))))) l = refl
+mask_is (suc (suc (suc (suc (suc (suc zero)))))) l = refl
+mask_is (suc (suc (suc (suc (suc (suc (suc zero))))))) l = refl
+mask_is (suc (suc (suc (suc (suc (suc (suc (suc j)))))))) l = absurd (omega arith)
 
 module _ (c j : ℕ) where
   set : bit (2 ^ j) j ≡ 1

@@ -9,12 +9,12 @@ ghost use Rattle.plane_unpack_steps.specs.Pairs.{pair_bit, Rows};
 
 use cuts::{Part, Sides};
 
-// The byte of which bit j alone is set.
+// The byte of which bit j alone is set. Not as `1 << j`: the compiler would make of it, in the loops, a shift by j of each byte, which takes a sixth longer.
 fn mask(j: u32) -> u8
     requires { j < 8 }
     ensures { result ≡ 2 ^ j }
 {
-    1 << j
+    128 >> (7 - j)
 }
 
 // Bit j of a byte, by the byte m of which it alone is set: a shift by j would take longer where many bytes are done at a time.

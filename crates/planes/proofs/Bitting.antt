@@ -13,10 +13,6 @@ use Rattle.ranges.specs.Ranges.{Ranged}
 use Rattle.ranges.proofs.Ranges.{ranged_part}
 use Rattle.planes.specs.Bytes.{Bitted}
 
--- before the first store
-pub bitted_none : (F : ℕ → ℕ → ℕ) (d : List ℕ) → Bitted 0 0 F d d
-bitted_none F d = record { len = refl; at = λ k q l u. absurd (omega arith); below = λ k l. refl; above = λ k l. refl }
-
 -- a store at the end of the run makes it longer by one
 pub bitted_more : {i : ℕ} {F : ℕ → ℕ → ℕ} {d d' : List ℕ} (v : ℕ) → Bitted 0 i F d d' → i < length d → ((q : ℕ) → q < 8 → bit v q ≡ F i q)
     → Bitted 0 (i + 1) F d (set d' i v)

@@ -4,8 +4,8 @@ use mathlib.Core.Logic.{⊎_elim}
 use mathlib.Core.List.{List, ◌++◌}
 use Prim.Native.Nat.{ℕ, ◌+◌, ◌-◌, ◌<◌, ◌≤◌, min}
 use native.Mathlib.Omega.{arith}
-use lib.ListN.{length, take, drop, get_or, set, length-set, get_or-append}
-use lib.Seq.{get_or-set_same, get_or-set_other, get_or-take, get_or-drop, get_or-append-add, length-take-le}
+use lib.ListN.{length, take, drop, get_or, get_or-append}
+use lib.Seq.{get_or-take, get_or-drop, get_or-append-add, length-take-le}
 use borrow.Rule.Slice.PartMut.{mid_of, post_of, put_mid, same_len_mid, mid_len}
 use Rattle.plane.proofs.Tests.{lt_or_le}
 use Rattle.ranges.specs.Ranges.{Ranged}
@@ -39,19 +39,6 @@ module _ {A : Type 0} {z : A} where
   -- before the first store
   pub ranged_none : (p : ℕ) (f : ℕ → A) (d : List A) → Ranged z p p f d d
   ranged_none p f d = record { len = refl; at = λ k l u. absurd (omega arith); below = λ k l. refl; above = λ k l. refl }
-
-  -- a store at the end of the range makes it longer by one
-  pub ranged_more : {p i : ℕ} {f : ℕ → A} {d d' : List A} (v : A) → Ranged z p i f d d' → p ≤ i → i < length d → v ≡ f i → Ranged z p (i + 1) f d (set d' i v)
-  ranged_more {p} {i} {f} {d} {d'} v r h l e = record {
-    len = length-set d' i v ∙ r.len;
-    at = λ k lo hi. ⊎_elim
-        (λ (u : k < i). get_or-set_other d' i k v z (λ (q : k ≡ i). omega arith) ∙ r.at k lo u)
-        (λ (u : i ≤ k). let q : k ≡ i = omega arith in
-        subst (λ (m : ℕ). get_or (set d' i v) m z ≡ f m) (sym q) (get_or-set_same d' i v z (omega (arith, r.len)) ∙ e))
-        (lt_or_le k i);
-    below = λ k u. get_or-set_other d' i k v z (λ (q : k ≡ i). omega arith) ∙ r.below k u;
-    above = λ k u. get_or-set_other d' i k v z (λ (q : k ≡ i). omega arith) ∙ r.above k (omega arith);
-  }
 
   -- the same range at another account of its cells
   pub ranged_ap : {p e : ℕ} {f g : ℕ → A} {d d' : List A} → Ranged z p e f d d' → ((k : ℕ) → p ≤ k → k < e → f k ≡ g k) → Ranged z p e g d d'

@@ -2,8 +2,9 @@
 use mathlib.Core.Path.{◌≡◌}
 use Prim.Native.Nat.{◌+◌, ◌*◌}
 use lib.ListN.{drop}
+use Rattle.cell_steps.specs.declared.TheConstants.{CHUNK}
 use Rattle.cell_steps.specs.Leaves.{counts_of}
 use Rattle.cell_steps.proofs.in_chunks.Given as goal
 
 abbrev pub invariant-loop-i : goal.invariant-loop-i
-invariant-loop-i l = l.n + counts_of l.v (drop (l.i * 224) l.cells) ≡ counts_of l.v l.cells
+invariant-loop-i l = l.n + counts_of l.v (drop (l.i * CHUNK) l.cells) ≡ counts_of l.v l.cells
