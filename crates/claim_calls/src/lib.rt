@@ -44,14 +44,8 @@ fn steps(
     ensures { Steps op shape.now w h frame.now first.old second.old plan.old result
         first.new second.new }
 {
-    let planned = plan_calls::plan(shape, plan);
-    match planned {
-        Answer::Refused(ground) => Answer::Refused(ground),
-        Answer::Done(n) => {
-            let k = n as usize;
-            operate(op, &plan[0..k], w, h, frame, first, second)
-        }
-    }
+    let n = plan_calls::plan(shape, plan)? as usize;
+    operate(op, &plan[..n], w, h, frame, first, second)
 }
 
 // The operation with the shape's own plan: the number of stages run, for which the part is handed back, or the refusal. The plan list is its own, so that a

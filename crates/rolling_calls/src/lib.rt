@@ -2,19 +2,11 @@
 // lie no farther from an end than the plan's points reach are worked out anew (end_steps) from the rows of the live frame near them.
 #![tactic(auto)]
 
-ghost use Rattle.std.specs.Prelude.{◌≡◌, min};
 ghost use Rattle.rolling.specs.Ends.{EndPut};
 ghost use Rattle.rolling.specs.Rolling.{Arrived};
 ghost use Rattle.rolling_calls.specs.Rows.{EndReady, Reworked, BothPut};
 
 use words::Answer;
-
-// The lesser of two numbers.
-fn lesser(a: usize, b: usize) -> usize
-    ensures { result ≡ min a b }
-{
-    if a < b { a } else { b }
-}
 
 // Rows b to b + t of the kept frame, from e rows of the live one, from row a on.
 fn end(plan: &[u32], w: usize, live: &[u8], a: usize, e: usize, kept: &mut [u8], b: usize, t: usize)
@@ -37,8 +29,8 @@ fn anew(plan: &[u32], w: usize, h: usize, y: usize, live: &[u8], kept: &mut [u8]
     requires { Reworked plan.now w h y live.now kept.old }
     ensures { BothPut plan.now w h y live.now kept.old kept.new }
 {
-    let e = lesser(h, 2 * y + 1);
-    let t = lesser(h, y + 1);
+    let e = h.min(2 * y + 1);
+    let t = h.min(y + 1);
     end(plan, w, live, 0, e, kept, 0, t);
     end(plan, w, live, h - e, e, kept, h - t, t);
 }
@@ -55,13 +47,10 @@ pub fn arrive(
 ) -> Answer
     ensures { Arrived plan.now w h row.now live.old kept.old result live.new kept.new }
 {
-    let tested = rolling_grounds::arrival_refusal(plan, w, h, row, live, kept);
-    if let Answer::Refused(ground) = tested {
-        return Answer::Refused(ground);
-    }
+    rolling_grounds::arrival_refusal(plan, w, h, row, live, kept)?;
     rolling_steps::roll(live, row);
     rolling_steps::roll(kept, row);
     let y = plan_steps::reach(plan) as usize;
     anew(plan, w, h, y, live, kept);
-    Answer::Done(0)
+    Ok(0)
 }
