@@ -13,7 +13,9 @@ use lib.ListN.{length, get_or, set}
 use lib.Seq.{get_or-set_other}
 use Rattle.plane.specs.Lists.{all}
 use Rattle.plane.proofs.Tests.{T_and, not_or, not_ltb, clash}
+use Rattle.masks.specs.Mask.{stage}
 use Rattle.masks.specs.Chain.{falling, smaller}
+use Rattle.masks.proofs.Cells.{stage_below}
 use Rattle.rows.specs.Cells.{Cells, Same, Sum, At, AtMask, AtSum, chosen}
 use Rattle.search.specs.Tree.{Completes, Line, FirstLine, NoneFirst, Narrowed}
 use Rattle.completions.specs.declared.Here.{Here}
@@ -103,6 +105,14 @@ module _ (permitted : ℕ → Bool) where
         first = λ ns l c. a.first ns l (P.later ns l c);
         past = a.past;
       }
+
+      -- no mask is left
+      pub passed_all : (i : ℕ) → ((n : ℕ) → T (permitted n) → T (stage n)) → Narrowed permitted A Y k m i → 512 ≤ i → FirstLine permitted A Y k m None
+      passed_all i st P q ns l c = go ns l (P.later ns l c)
+        where
+          go : (ns : List ℕ) → length ns ≡ k → Completes permitted A Y i ns → ⊥
+          go [] l c = let r : 0 ≡ k = l in omega arith
+          go (s ∷ ns) l c = let h = head i s ns c in let b = stage_below s (st s h.1) in omega (arith, h.0)
 
     -- ---- a stage put before what completes the sum below it
 
