@@ -4,6 +4,7 @@
 #![tactic(auto)]
 
 // A partial sum: the target, the residue target ⊖ sum, the masks of the sum, and the numbers that are needed still.
+// The path is an array with a length, since there is no heap.
 #[derive(Clone, Copy)]
 pub struct Here {
     pub target: [u16; 16],

@@ -36,6 +36,7 @@ fn carried(a: [u16; 16], path: [u16; 32], len: usize) -> [u16; 16]
 {
     let mut z = a;
     for j in 0..len {
+        // a variable of its own, since the borrow checker does not cover a call's result that is laid in an array
         let next = mask_steps::grown(z, path[j]);
         z = next;
     }

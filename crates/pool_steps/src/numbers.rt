@@ -35,7 +35,7 @@ pub fn less(need: [u8; 18], nums: &[u8; 9216], m: u16) -> [u8; 18]
     r
 }
 
-// 1 where m is one of the 512 masks and fits what is needed, else 0.
+// 1 where m is one of the 512 masks and fits what is needed, else 0: a number, so that what fits is written and counted without a branch.
 pub(crate) fn fitting(need: [u8; 18], nums: &[u8; 9216], m: u16) -> usize
     ensures { (result ≤ 1) × ((1 ≤ result → (m < 512) × Fit (number_in nums.now) need m) ×
         (m < 512 → Fit (number_in nums.now) need m → 1 ≤ result)) }
