@@ -11,8 +11,20 @@ use words::Ground;
 pub(crate) fn refused(ws: &[u32], vs: &[u32]) -> Result<(), Ground>
     ensures { refused_by result ≡ first_of (both (shape_tests ws.now) (shape_tests vs.now)) }
 {
-    words::tried(word_grounds::wrong_length(ws, 2, 17) || word_grounds::wrong_length(vs, 2, 17), Ground::ListLength)?;
-    words::tried(shape::wrong_kinds(ws) || shape::wrong_kinds(vs), Ground::WordKind)?;
-    words::tried(shape::extra_bits(ws) || shape::extra_bits(vs), Ground::ExtraBit)?;
-    words::tried(shape::wrong_rows(ws) || shape::wrong_rows(vs), Ground::RowOrder)
+    words::tried(
+        word_grounds::wrong_length(ws, 2, 17) || word_grounds::wrong_length(vs, 2, 17),
+        Ground::ListLength,
+    )?;
+    words::tried(
+        shape::wrong_kinds(ws) || shape::wrong_kinds(vs),
+        Ground::WordKind,
+    )?;
+    words::tried(
+        shape::extra_bits(ws) || shape::extra_bits(vs),
+        Ground::ExtraBit,
+    )?;
+    words::tried(
+        shape::wrong_rows(ws) || shape::wrong_rows(vs),
+        Ground::RowOrder,
+    )
 }
