@@ -1,21 +1,14 @@
 -- How large the fields of a word of each kind are.
-use mathlib.Core.Path.{◌≡◌, refl, sym, ap, subst, ◌∙◌}
-use mathlib.Core.Logic.{◌≢◌, ⊎_elim}
+use mathlib.Core.Path.{◌≡◌, subst}
 use mathlib.Core.Bool.{Bool, true, false}
-use mathlib.Core.List.{List, []}
-use Prim.Native.Nat.{ℕ, ◌/◌, ◌%◌, ◌^◌, ◌<◌, ◌≤◌}
+use Prim.Native.Nat.{ℕ, ◌/◌, ◌%◌, ◌^◌, ◌<◌}
 use native.Mathlib.Omega.{arith}
 use lib.Dec.{eqb}
-use lib.ListN.{length, get_or, get_or-eq_default}
-use Rattle.plane.proofs.Tests.{lt_or_le}
 use Rattle.words.specs.Read.{word_of, pick}
 use Rattle.words.specs.Word.{kind, anchor_kind, row_kind, head_kind, place_kind, stage_kind, anchor_x, anchor_y, row_y, row_bits, head_count, place_x, place_y, stage_mask}
 use Rattle.words.specs.declared.Word.{Word}
 use Rattle.words.specs.declared.Word.TheVariants.{Anchor, Row, Head, Place, Stage, Unused}
-use Rattle.readers.specs.Cursor.{item_at}
-use Rattle.std.specs.Prelude.{Option, Some, None}
-use Rattle.readers.proofs.Positions.{item_here, item_end}
-use Rattle.lists.specs.Held.{cells_in, anchor_in, place_in, mask_in}
+use Rattle.lists.specs.Held.{anchor_in}
 
 -- ---- the fields of a word
 
