@@ -4,7 +4,6 @@ use mathlib.Core.Logic.{◌⊎◌, inl, inr, ◌≢◌}
 use mathlib.Core.Bool.{not}
 use mathlib.Core.List.{List}
 use Prim.Native.Nat.{ℕ, ◌+◌, ◌-◌, ◌≤◌}
-use native.Mathlib.Nat.{sub-zero}
 use native.Mathlib.Omega.{arith}
 use lib.Dec.{T, eqb, eqb→eq}
 use lib.ListN.{length, take, drop, length-append, length-map}
@@ -63,12 +62,12 @@ module _ {ws own own' : List ℕ} (r : Answer) where
     }
 
     -- planning wrote n words, and the operation was given these
-    pub went_on : {n : ℕ} {s : Answer} {i' j' : List ℕ} → r ≡ Ok n → Planned ws own r own' → Cleaned op (take (n - 0) own') W H f i j s i' j'
+    pub went_on : {n : ℕ} {s : Answer} {i' j' : List ℕ} → r ≡ Ok n → Planned ws own r own' → Cleaned op (take n own') W H f i j s i' j'
         → Steps op ws W H f i j own s i' j'
     went_on {n} {s} {i'} {j'} e p c = record {
       answer = r;
       own' = own';
       plans = p;
       stops = λ k. absurd (k (done_zero e));
-      cleans = λ _. subst (λ k. Cleaned op (take k own') W H f i j s i' j') (sub-zero n ∙ ap (λ a. (stated a).1) (sym e)) c;
+      cleans = λ _. subst (λ k. Cleaned op (take k own') W H f i j s i' j') (ap (λ a. (stated a).1) (sym e)) c;
     }

@@ -1,9 +1,6 @@
 -- A refusal is the answer; else what no ground refuses fits, and is written.
 use native.Mathlib.Omega.{arith}
 use mathlib.Core.Path.{refl, sym}
-use Rattle.std.proofs.lemmas.Result.{err_from_is_err_and}
-use Rattle.words.proofs.Tested.{refused_call}
-use Rattle.grids.specs.Grid.{put_tests}
 use Rattle.frame_grounds.proofs.Sides.{sides}
 use Rattle.put_calls.proofs.Fitting.{put_sides, put_done}
 use Rattle.put_calls.proofs.put.Goals as goal

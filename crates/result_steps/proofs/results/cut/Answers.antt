@@ -1,5 +1,5 @@
 -- The cut goes from one image into the other, at the distances that the place gives.
-use mathlib.Core.Path.{sym, ◌∙◌, ap}
+use mathlib.Core.Path.{◌∙◌, ap}
 use native.Mathlib.Omega.{arith}
 use Rattle.words.specs.Word.{place_x, place_y}
 use Rattle.grids.specs.Grid.{outside_of}
