@@ -24,7 +24,7 @@ const MIDDLE: [u8; 18] = [0, 1, 2, 3, 4, 5, 6, 7, 8, 9, 10, 11, 12, 13, 14, 15, 
 
 const TIMES: [u16; 18] = [4, 1, 3, 1, 4, 1, 3, 1, 4, 1, 3, 1, 4, 1, 3, 1, 0, 0];
 
-// The column of the first cell of a row that has one; 16 where it has none.
+// The column of the first cell of a row that has one; 16 where it has none, as std's `trailing_zeros` answers.
 pub fn first_in(row: u16) -> u16
     ensures { FirstFound row result }
 {

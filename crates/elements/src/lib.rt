@@ -20,7 +20,7 @@ pub struct Shape {
 }
 
 // A shape's cells in the window of a shape list, with the anchor.
-#[derive(Drop)]
+#[derive(Clone, Copy)]
 pub struct Window {
     pub ax: u32,
     pub ay: u32,
@@ -39,7 +39,8 @@ fn nothing() -> Shape
     }
 }
 
-// A coordinate, biased by 15, moved by d; 31 where that is too far from 0. The sum is made in 64 bits, so every d is answered.
+// A coordinate, biased by 15, moved by d; 31 where that is too far from 0, which `within` refuses as it does any place that is: an Option would be asked once
+// more. The sum is made in 64 bits, so every d is answered.
 fn along(x: u32, d: i32) -> u32
     ensures { Along x d result }
 {

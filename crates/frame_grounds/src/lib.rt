@@ -1,6 +1,7 @@
 // What refuses a frame, a work image or a single stage: the first of grounds 2, 3, 7 and 11 to 14 of document 01 that holds; Ok(()) where none does.
 // `sizes` has the tests of sides and lengths, `stage` those of a single stage. The cells are looked at once, by `cell_steps`: the greatest number among them
-// decides ground 13, and tells the caller whether a cell was not measured.
+// decides ground 13, and tells the caller whether a cell was not measured. W, H and the cells of a frame stand apart: of a struct that holds a reference each
+// contract would say `frame.entry.w` and `frame.entry.cells.now` for `w` and `frame.now`.
 #![tactic(auto)]
 
 mod sizes;

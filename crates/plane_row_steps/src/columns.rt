@@ -5,24 +5,16 @@ ghost use Rattle.plane_row_steps.specs.MaskRows.{first_column, across_of};
 
 use plane_pass_steps::Columns;
 
-// Whether bit b of the mask is set.
-fn has(mask: u16, b: u32) -> bool
-    requires { b < 9 }
-    ensures { result ≡ has_bit mask b }
-{
-    (mask >> b) % 2 == 1
-}
-
 // The first column that is set, of the three whose bits begin at s.
 pub(crate) fn first(mask: u16, s: u32) -> Option<usize>
     requires { s ≤ 6 }
     ensures { MatchOption result (first_column mask s ≡ 3) (λ f. (f ≡ first_column mask s) × (f < 3)) }
 {
-    if has(mask, s) {
+    if rows::has(mask, s) {
         Some(0)
-    } else if has(mask, s + 1) {
+    } else if rows::has(mask, s + 1) {
         Some(1)
-    } else if has(mask, s + 2) {
+    } else if rows::has(mask, s + 2) {
         Some(2)
     } else {
         None
@@ -34,7 +26,7 @@ fn read(mask: u16, s: u32, i: usize, f: usize, erode: bool) -> usize
     requires { (s ≤ 6) × (i ≤ 2) × (f ≤ 2) }
     ensures { (result ≡ across_of erode (cond (has_bit mask (s + i)) i f)) × (result ≤ 2) }
 {
-    let k = if has(mask, s + i as u32) { i } else { f };
+    let k = if rows::has(mask, s + i as u32) { i } else { f };
     if erode { k } else { 2 - k }
 }
 

@@ -1,4 +1,5 @@
-// The work images take turns: each single stage reads the image in which the plane stands and writes the other.
+// The work images take turns: each single stage reads the image in which the plane stands and writes the other. They stand apart: two fields of a struct, each
+// a `&mut`, cannot be lent to one call (the checker does not cover that yet).
 ghost use Rattle.std.specs.Prelude.{◌≤◌};
 ghost use Rattle.turn_steps.specs.Turns.{Worded, PlaneRoom, Turned, Passed, Ended};
 
