@@ -1,7 +1,8 @@
 // The quick search: `may_sum` says whether masks of a list may sum to a set of cells, and `opened` has the partial sum below by a mask where masks of a list
 // may complete it. Both are one-sided: `false` says that none do, `true` promises nothing.
 // `node` and `stage` call each other: a node picks a number that is still needed and tries the masks that have it, and a stage opens the sum below.
-// It builds on pool_steps (the lists of a node) and path_steps (the partial sums).
+// It builds on pool_steps (the lists of a node) and path_steps (the partial sums). The table of numbers and the list of masks are lent apart: of a struct that
+// holds references each contract would say `entry` and `now` of each.
 #![tactic(auto)]
 
 ghost use Rattle.std.specs.Prelude.{◌≡◌, false, ◌+◌, ◌≤◌, ◌<◌, ◌↔◌, length, IsTrue};

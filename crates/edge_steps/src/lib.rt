@@ -6,7 +6,8 @@
 ghost use Rattle.std.specs.Prelude.{◌≡◌, ℕ, ◌+◌, ◌*◌, ◌≤◌, ◌<◌, get_or};
 ghost use Rattle.edges.specs.Numbers.{FirstFound, LastIn, Supported, Topped, RowTops, Fits, Numbered};
 
-// The sixteen directions: (PLUS_X - MINUS_X, PLUS_Y - MINUS_Y).
+// The sixteen directions: (PLUS_X - MINUS_X, PLUS_Y - MINUS_Y). These tables, and those of the numbers below, stand one by one, as specs/Edges of the crate
+// edges has them: so the check takes each for its definition, and a loop reads sixteen entries side by side.
 const PLUS_X: [u16; 16] = [1, 2, 1, 1, 0, 0, 0, 0, 0, 0, 0, 0, 0, 1, 1, 2];
 
 const PLUS_Y: [u16; 16] = [0, 1, 1, 2, 1, 2, 1, 1, 0, 0, 0, 0, 0, 0, 0, 0];

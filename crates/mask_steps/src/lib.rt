@@ -1,5 +1,6 @@
 // Sums and residues of rows by a 3×3 mask: grown and shrunk. Each row is moved by the mask's nine cells alike, and what a cell of the mask moves is kept by a
 // word of ones where the mask has the cell: no test stands in the loop over the rows. What rows and masks stand for: specs/ of the crate rows.
+// The two and their steps stay apart: one function over both would take `|` or `&`, the direction of the move and what stands for no cell with it.
 #![tactic(auto)]
 
 ghost use Rattle.std.specs.Prelude.{◌≡◌, ℕ, ◌+◌, ◌*◌, ◌≤◌, ◌<◌, get_or};

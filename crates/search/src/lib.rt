@@ -3,7 +3,7 @@
 #![tactic(auto)]
 
 // What the search starts with: a mark for each mask, the n marked masks as a list, and a table with eighteen numbers for each mask.
-// The list is an array with a length, since there is no heap.
+// The list is an array with a length, since there is no heap; and no copy is made of eleven thousand bytes unasked.
 #[derive(Drop)]
 pub struct Pool {
     pub marks: [u8; 512],

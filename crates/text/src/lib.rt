@@ -2,7 +2,8 @@
 // line_steps, and pages made in page_steps. No input, no output, no planning.
 #![tactic(auto)]
 
-// What has been read: whether some line was bad; how many words, counted to 18, and the words; the digits of the line begun and their value.
+// What has been read: whether some line was bad; how many words, counted to 18, and the words; the digits of the line begun and their value. `bad` is a field,
+// since `print_calls::page` answers of every reading, a bad one too; the buffer of words is fixed, since nothing allocates.
 #[derive(Clone, Copy)]
 pub struct Reading {
     pub bad: bool,
