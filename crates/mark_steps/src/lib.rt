@@ -10,23 +10,23 @@ ghost use Rattle.search.specs.Asking.{Drawn, Stored, Tabled, Stocked};
 
 use search::Pool;
 
-// 1 for a stage that leaves the cells equal to (cells ⊖ m) ⊕ m, as each stage of a plan of them does; else 0.
-fn mark(cells: [u16; 16], m: u16) -> u8
+// Whether m is a stage that leaves the cells equal to (cells ⊖ m) ⊕ m, as each stage of a plan of them does.
+fn mark(cells: [u16; 16], m: u16) -> bool
     ensures { Candidate isStage (At cells) m result }
 {
     if !stage_steps::is_stage(m as u32) {
-        return 0;
+        return false;
     }
     let t = mask_steps::shrunk(cells, m);
     let whole = mask_steps::grown(t, m);
-    if row_steps::same(cells, whole) { 1 } else { 0 }
+    row_steps::same(cells, whole)
 }
 
 // The marks of all masks.
-fn marked(cells: [u16; 16]) -> [u8; 512]
+fn marked(cells: [u16; 16]) -> [bool; 512]
     ensures { Candidates isStage (At cells) 512 result }
 {
-    let mut marks = [0u8; 512];
+    let mut marks = [false; 512];
     for m in 0..512 {
         marks[m as usize] = mark(cells, m);
     }
@@ -34,14 +34,14 @@ fn marked(cells: [u16; 16]) -> [u8; 512]
 }
 
 // Puts the masks that are marked to the front of the list, and answers how many they are.
-fn listed(marks: &[u8], list: &mut [u16; 512]) -> usize
+fn listed(marks: &[bool], list: &mut [u16; 512]) -> usize
     requires { (length marks.now ≡ 512) × (length list.old ≡ 512) }
     ensures { Drawn marks.now 512 list.new result }
 {
     let mut n: usize = 0;
     for m in 0..512 {
         list[n] = m;
-        if marks[m as usize] == 1 {
+        if marks[m as usize] {
             n += 1;
         }
     }
@@ -60,20 +60,19 @@ fn store(table: &mut [u8], m: usize, numbers: [u8; 18])
 }
 
 // Stores the numbers of the mask m in the table, where it is marked.
-fn entered(marks: &[u8], table: &mut [u8], m: u16)
+fn entered(marks: &[bool], table: &mut [u8], m: u16)
     requires { Marks marks.now × ((length table.old ≡ 9216) × (m < 512)) }
     ensures { (length table.new ≡ length table.old) ×
         (Tabled marks.now m table.old → Tabled marks.now (m + 1) table.new) }
 {
-    if marks[m as usize] != 1 {
-        return;
+    if marks[m as usize] {
+        let numbers = edge_steps::numbers(row_steps::mask_rows(m), 3);
+        store(table, m as usize, numbers);
     }
-    let numbers = edge_steps::numbers(row_steps::mask_rows(m), 3);
-    store(table, m as usize, numbers);
 }
 
 // Fills the table with the numbers of the masks that are marked.
-fn tabled(marks: &[u8], table: &mut [u8])
+fn tabled(marks: &[bool], table: &mut [u8])
     requires { Marks marks.now × (length table.old ≡ 9216) }
     ensures { Tabled marks.now 512 table.new }
 {

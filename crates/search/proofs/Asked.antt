@@ -1,4 +1,5 @@
 -- The list and the table that the quick search is asked with, a mask at a time; and what its answer says of lists that sum to the cells.
+use mathlib.Core.Bool.{Bool}
 use mathlib.Core.Path.{◌≡◌, sym, subst, ◌∙◌}
 use mathlib.Core.Bool.{false}
 use mathlib.Core.Logic.{⊎_elim}
@@ -24,7 +25,7 @@ use Rattle.search.proofs.Reaches.{mask_reach}
 
 -- ---- the list
 
-module _ (marks list : List ℕ) (n m : ℕ) (l : m < 512) (d : Drawn marks m list n) where
+module _ (marks : List Bool) (list : List ℕ) (n m : ℕ) (l : m < 512) (d : Drawn marks m list n) where
   pub drawn_more : T (tries marks m) → Drawn marks (m + 1) (set list n m) (n + 1)
   drawn_more t =
       let few = d.few in
@@ -71,7 +72,7 @@ module _ (table : List ℕ) (m : ℕ) (numbers : List ℕ) where
         kept = λ s k q w. get_or-set_other t (m * 18 + i) (s * 18 + k) v 0 (λ e. omega arith) ∙ h.kept s k q w;
       }
 
-module _ (marks table : List ℕ) (m : ℕ) (h : Tabled marks m table) where
+module _ (marks : List Bool) (table : List ℕ) (m : ℕ) (h : Tabled marks m table) where
   pub tabled_skip : (T (tries marks m) → ⊥) → Tabled marks (m + 1) table
   tabled_skip f = record {
     long = h.long;

@@ -66,7 +66,7 @@ module _ (permitted : ℕ → Bool) (sub : (m : ℕ) → T (permitted m) → T (
   none_short A w h k e f q ns S t l = let b = (counts A w h e f ns S).0 in omega arith
 
   -- the answers for each number of stages together
-  module _ (A : Cells) (marks : List ℕ) (M : Candidates permitted A 512 marks) (k : ℕ) (below : NoneBelow A k) where
+  module _ (A : Cells) (marks : List Bool) (M : Candidates permitted A 512 marks) (k : ℕ) (below : NoneBelow A k) where
     -- what sums to A completes the cell (0, 0) to A, with stages that are tried
     completes : (ns : List ℕ) → SumsTo permitted A ns → T (not (falling ns)) → Completes (tries marks) A AtOrigin 0 ns
     completes ns S t = record { stages = all_tried permitted A sub marks M ns S; rising = zero_first ns t; sum = same_trans S.sum (same_sym from_origin) }

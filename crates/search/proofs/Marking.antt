@@ -1,9 +1,9 @@
 -- Which masks are tried at all: a stage of a list that sums to A leaves A equal to (A ⊖ m) ⊕ m, so a stage that does not is in no such list.
 use mathlib.Core.Path.{◌≡◌, refl, sym, ◌∙◌, subst}
-use mathlib.Core.Bool.{Bool, not}
+use mathlib.Core.Bool.{Bool, true, false, not}
 use mathlib.Core.Logic.{◌⊎◌, inl, inr, ⊎_elim}
 use mathlib.Core.List.{List, [], ◌∷◌}
-use Prim.Native.Nat.{ℕ, ◌+◌, ◌≤◌, ◌<◌}
+use Prim.Native.Nat.{ℕ, zero, suc, ◌+◌, ◌≤◌, ◌<◌}
 use native.Mathlib.Nat.{eq-or-lt_of_le}
 use native.Mathlib.Omega.{arith}
 use lib.Dec.{T, eqb→eq}
@@ -11,7 +11,7 @@ use lib.ListN.{get_or, set, length-set, replicate}
 use lib.Seq.{get_or-set_same, get_or-set_other}
 use Rattle.plane.specs.Lists.{all, In}
 use Rattle.plane.proofs.Member.{all_In, In-all}
-use Rattle.plane.proofs.Tests.{T_dec, clash, eq-eqb, lt_or_le}
+use Rattle.plane.proofs.Tests.{T_dec, T_true, T_false, lt_or_le}
 use Rattle.masks.specs.Mask.{stage}
 use Rattle.masks.proofs.Cells.{stage_below}
 use Rattle.rows.specs.Cells.{Cells, Same, Sum, Residue, At, AtMask, AtSum, CutTo}
@@ -66,37 +66,48 @@ module _ (A : List ℕ) (wA : Rows16 A) (m : ℕ) (t : List ℕ) (ht : CutTo (Re
           ht.from u v (record { all = λ i j f. e.from (u + i) (v + j) (add_cells u v i j k f) })
           (omega (arith, in_x A wA x z a)) (omega (arith, in_y A wA x z a))
 
+-- no mark is set at first
+false_at : (n m : ℕ) → get_or (replicate n false) m false ≡ false
+false_at zero m = refl
+false_at (suc n) zero = refl
+false_at (suc n) (suc m) = false_at n m
+
 module _ (permitted : ℕ → Bool) (A : Cells) where
   -- a mask that is not permitted, or that leaves something else than A
-  pub mark_none : (m mark : ℕ) → mark ≡ 0 → (T (permitted m) → (ns : List ℕ) → SumsTo permitted A ns → In ns m → ⊥) → Candidate permitted A m mark
-  mark_none m mark z f = record { tried = λ e. absurd (omega arith); passed = λ g st ns S h. f st ns S h }
+  pub mark_none : (m : ℕ) (mark : Bool) → mark ≡ false → (T (permitted m) → (ns : List ℕ) → SumsTo permitted A ns → In ns m → ⊥) → Candidate permitted A m mark
+  mark_none m mark z f = record { tried = λ e. absurd (subst T (sym e ∙ z) tt); passed = λ g st ns S h. f st ns S h }
 
-  pub mark_one : (m mark : ℕ) → mark ≡ 1 → T (permitted m) → Candidate permitted A m mark
-  mark_one m mark e st = record { tried = λ _. st; passed = λ g. absurd (g e) }
+  pub mark_one : (m : ℕ) (mark : Bool) → mark ≡ true → T (permitted m) → Candidate permitted A m mark
+  mark_one m mark e st = record { tried = λ _. st; passed = λ g. absurd (subst T (sym e ∙ g) tt) }
+
+  -- a permitted mask has its mark, unless no sum that is A has it
+  pub mark_by : (m : ℕ) (mark : Bool) → T (permitted m) → (mark ≡ false → T (permitted m) → (ns : List ℕ) → SumsTo permitted A ns → In ns m → ⊥)
+      → Candidate permitted A m mark
+  mark_by m true st f = mark_one m true refl st
+  mark_by m false st f = mark_none m false refl (f refl)
 
   -- ---- all masks
 
-  pub marked_none : Candidates permitted A 0 (replicate 512 0)
-  marked_none = record { room = refl; at = λ m l. absurd (omega arith); rest = λ m l. zero_at 512 m }
+  pub marked_none : Candidates permitted A 0 (replicate 512 false)
+  marked_none = record { room = refl; at = λ m l. absurd (omega arith); rest = λ m l. false_at 512 m }
 
-  pub marked_more : (n : ℕ) (marks : List ℕ) (v : ℕ) → n < 512 → Candidates permitted A n marks → Candidate permitted A n v → Candidates permitted A
+  pub marked_more : (n : ℕ) (marks : List Bool) (v : Bool) → n < 512 → Candidates permitted A n marks → Candidate permitted A n v → Candidates permitted A
       (n + 1) (set marks n v)
   marked_more n marks v l M k = record {
     room = length-set marks n v ∙ M.room;
     at = λ m q. ⊎_elim
-        (λ e. subst (λ (j : ℕ). Candidate permitted A j (get_or (set marks n v) j 0)) (sym e)
-        (subst (Candidate permitted A n) (sym (get_or-set_same marks n v 0 (omega (arith, M.room)))) k))
-        (λ w. subst (Candidate permitted A m) (sym (get_or-set_other marks n m v 0 (λ e. omega arith))) (M.at m w))
+        (λ e. subst (λ (j : ℕ). Candidate permitted A j (get_or (set marks n v) j false)) (sym e)
+        (subst (Candidate permitted A n) (sym (get_or-set_same marks n v false (omega (arith, M.room)))) k))
+        (λ w. subst (Candidate permitted A m) (sym (get_or-set_other marks n m v false (λ e. omega arith))) (M.at m w))
         (eq-or-lt_of_le {n = m} {m = n} (omega arith));
-    rest = λ m q. get_or-set_other marks n m v 0 (λ e. omega arith) ∙ M.rest m (omega arith);
+    rest = λ m q. get_or-set_other marks n m v false (λ e. omega arith) ∙ M.rest m (omega arith);
   }
 
-  module _ (sub : (m : ℕ) → T (permitted m) → T (stage m)) (marks : List ℕ) (M : Candidates permitted A 512 marks) where
+  module _ (sub : (m : ℕ) → T (permitted m) → T (stage m)) (marks : List Bool) (M : Candidates permitted A 512 marks) where
     -- what is tried is permitted
     pub tried_permitted : (m : ℕ) → T (tries marks m) → T (permitted m)
     tried_permitted m t =
-        let e = eqb→eq (get_or marks m 0) 1 t in
-        ⊎_elim (λ w. (M.at m w).tried e) (λ w. let z = M.rest m w in absurd (omega arith)) (lt_or_le m 512)
+        ⊎_elim (λ w. (M.at m w).tried (T_true (tries marks m) t)) (λ w. absurd (subst T (M.rest m w) t)) (lt_or_le m 512)
 
     pub marks_of : Marks marks
     marks_of = record { room = M.room; stages = λ m t. sub m (tried_permitted m t) }
@@ -110,4 +121,4 @@ module _ (permitted : ℕ → Bool) (A : Cells) where
         go m h (inr f) =
             let st = In-all permitted ns S.masks m h in
             let k = M.at m (stage_below m (sub m st)) in
-            absurd (k.passed (λ e. clash (tries marks m) f (eq-eqb e)) st ns S h)
+            absurd (k.passed (T_false (tries marks m) f) st ns S h)

@@ -1,4 +1,5 @@
 -- The quick search is asked with the numbers of the marked masks and of the cells; where it says no, no stages sum to the cells.
+use mathlib.Core.Bool.{Bool}
 use mathlib.Core.Path.{◌≡◌, refl, subst}
 use mathlib.Core.Bool.{true, false}
 use Rattle.std.specs.Prelude.{None}
@@ -78,7 +79,7 @@ module _ (m : ℕ) (t : T (stage m)) where
 
 -- ---- what the quick search is asked with
 
-module _ (marks cells : List ℕ) (M : Candidates stage (At cells) 512 marks) where
+module _ (marks : List Bool) (cells : List ℕ) (M : Candidates stage (At cells) 512 marks) where
   is_stage : (m : ℕ) → T (tries marks m) → T (stage m)
   is_stage = tried_permitted stage (At cells) (λ m t. t) marks M
 
@@ -128,7 +129,7 @@ module _ (marks cells : List ℕ) (M : Candidates stage (At cells) 512 marks) wh
       whole m a = among_more list (length (take n list)) n m (omega (arith, length-take n list))
           (of_part list n (length (take n list)) m (omega (arith, length-take n list)) a)
 
-module _ (marks cells need nums cand : List ℕ) (q : Questioned marks cells need nums cand) (k : ℕ) (none : NoSum cells need nums cand k) where
+module _ (marks : List Bool) (cells need nums cand : List ℕ) (q : Questioned marks cells need nums cand) (k : ℕ) (none : NoSum cells need nums cand k) where
   -- no marked masks, k or fewer, sum to the cells
   pub no_marked : (ns : List ℕ) → T (all (tries marks) ns) → Same (At cells) (AtSum ns) → length ns ≤ k → ⊥
   no_marked ns t e l = (none.no (tries marks) q.masks q.state q.pool.allowed).no ns
@@ -140,13 +141,13 @@ module _ (marks cells need nums cand : List ℕ) (q : Questioned marks cells nee
   no_answer ns l c = no_marked ns c.stages (same_trans c.sum from_origin) (omega arith)
 
 -- what the search starts from
-pub start_kept : (marks cells need nums cand : List ℕ) → Questioned marks cells need nums cand → (k : ℕ) (path : List ℕ) → k ≤ 30
+pub start_kept : (marks : List Bool) (cells need nums cand : List ℕ) → Questioned marks cells need nums cand → (k : ℕ) (path : List ℕ) → k ≤ 30
     → Underway marks nums cand (record { target = cells; rest = cells; path = path; len = 0; need = need }) k
 unfolding chosen
 start_kept marks cells need nums cand q k path l = record { pool = q.pool; room = omega arith; state = record { known = q.masks; state = q.state } }
 
 -- where w + h or fewer do not, none do
-pub no_plan : (marks cells need nums cand : List ℕ) → Candidates stage (At cells) 512 marks → Questioned marks cells need nums cand → (w h : ℕ)
+pub no_plan : (marks : List Bool) (cells need nums cand : List ℕ) → Candidates stage (At cells) 512 marks → Questioned marks cells need nums cand → (w h : ℕ)
     → Greatest column (At cells) w → Greatest row (At cells) h
     → NoSum cells need nums cand (w + h) → Shortest stage (At cells) None
 no_plan marks cells need nums cand M q w h e f none ns S =

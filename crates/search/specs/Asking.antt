@@ -11,7 +11,7 @@ use Rattle.search.specs.declared.Pool.{Pool}
 use Rattle.search.specs.Tree.{tries, Marks, Candidates}
 
 -- the marked masks below m are the first n of the list
-pub record Drawn (marks : List ℕ) (m : ℕ) (list : List ℕ) (n : ℕ) : Type 0 where
+pub record Drawn (marks : List Bool) (m : ℕ) (list : List ℕ) (n : ℕ) : Type 0 where
   pub few : n ≤ m
   pub long : length list ≡ 512
   pub all : (s : ℕ) → s < m → T (tries marks s) → Among list n s
@@ -24,7 +24,7 @@ pub record Stored (table : List ℕ) (m : ℕ) (numbers : List ℕ) (i : ℕ) (t
   pub kept : (s k : ℕ) → s < m → k < 18 → number_in table' k s ≡ number_in table k s
 
 -- the numbers of each marked mask below m stand in the table
-pub record Tabled (marks : List ℕ) (m : ℕ) (table : List ℕ) : Type 0 where
+pub record Tabled (marks : List Bool) (m : ℕ) (table : List ℕ) : Type 0 where
   pub long : length table ≡ 9216
   pub at : (s : ℕ) → s < m → T (tries marks s) → (i : ℕ) → i < 18 → Number i (AtMask s) (number_in table i s)
 
@@ -35,20 +35,20 @@ pub record Stocked (cells : List ℕ) (r : Pool) : Type 0 where
   pub table : Tabled r.marks 512 r.nums
 
 -- the list that the quick search is asked with has just the marked masks
-pub record Pooled (marks cand : List ℕ) : Type 0 where
+pub record Pooled (marks : List Bool) (cand : List ℕ) : Type 0 where
   pub marked : Marks marks
   pub few : length cand ≤ 512
   pub allowed : Allowed (tries marks) cand
   pub all : (m : ℕ) → T (tries marks m) → Among cand (length cand) m
 
 -- what it is asked with for the cells of a target: the numbers of the cells, too
-pub record Questioned (marks cells need nums cand : List ℕ) : Type 0 where
+pub record Questioned (marks : List Bool) (cells need nums cand : List ℕ) : Type 0 where
   pub pool : Pooled marks cand
   pub masks : Masks (tries marks) nums
   pub state : Open (tries marks) (number_in nums) (At cells) AtOrigin (At cells) need
 
 -- what is kept of a partial sum with k stages to come
-pub record Underway (marks nums cand : List ℕ) (here : Here) (k : ℕ) : Type 0 where
+pub record Underway (marks : List Bool) (nums cand : List ℕ) (here : Here) (k : ℕ) : Type 0 where
   pub pool : Pooled marks cand
   pub room : here.len + k ≤ 30
   pub state : Ready (tries marks) nums here

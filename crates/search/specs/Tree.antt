@@ -1,5 +1,5 @@
 -- Document 01, "Shortest plan": the tree that the search goes down. A partial sum Y tries each stage, and each stage tried opens the sum below it.
-use Rattle.std.specs.Prelude.{◌≡◌, Bool, not, List, ◌∷◌, ℕ, ◌-◌, ◌≤◌, ◌<◌, T, eqb, get_or, length, Option, MatchOption}
+use Rattle.std.specs.Prelude.{◌≡◌, Bool, false, true, not, List, ◌∷◌, ℕ, ◌-◌, ◌≤◌, ◌<◌, T, get_or, length, Option, MatchOption}
 use Rattle.plane.specs.Lists.{all, In}
 use Rattle.masks.specs.Chain.{falling, smaller}
 use Rattle.masks.specs.Mask.{stage}
@@ -34,21 +34,21 @@ pub record Narrowed (permitted : ℕ → Bool) (A Y : Cells) (k m i : ℕ) : Typ
 -- ---- which masks are tried at all
 
 -- mask m is marked as one to try
-abbrev pub tries : List ℕ → ℕ → Bool
-tries marks m = eqb (get_or marks m 0) 1
+abbrev pub tries : List Bool → ℕ → Bool
+tries marks m = get_or marks m false
 
 -- a mark for each mask, none but stages marked
-pub record Marks (marks : List ℕ) : Type 0 where
+pub record Marks (marks : List Bool) : Type 0 where
   pub room : length marks ≡ 512
   pub stages : (m : ℕ) → T (tries marks m) → T (stage m)
 
--- the mark of m: 1 only for a permitted mask, and no sum of permitted masks that is A has an unmarked one
-pub record Candidate (permitted : ℕ → Bool) (A : Cells) (m mark : ℕ) : Type 0 where
-  pub tried : mark ≡ 1 → T (permitted m)
-  pub passed : (mark ≡ 1 → ⊥) → T (permitted m) → (ns : List ℕ) → SumsTo permitted A ns → In ns m → ⊥
+-- the mark of m: only a permitted mask has it, and no sum of permitted masks that is A has an unmarked one
+pub record Candidate (permitted : ℕ → Bool) (A : Cells) (m : ℕ) (mark : Bool) : Type 0 where
+  pub tried : mark ≡ true → T (permitted m)
+  pub passed : mark ≡ false → T (permitted m) → (ns : List ℕ) → SumsTo permitted A ns → In ns m → ⊥
 
 -- the marks of all masks below n
-pub record Candidates (permitted : ℕ → Bool) (A : Cells) (n : ℕ) (marks : List ℕ) : Type 0 where
+pub record Candidates (permitted : ℕ → Bool) (A : Cells) (n : ℕ) (marks : List Bool) : Type 0 where
   pub room : length marks ≡ 512
-  pub at : (m : ℕ) → m < n → Candidate permitted A m (get_or marks m 0)
-  pub rest : (m : ℕ) → n ≤ m → get_or marks m 0 ≡ 0
+  pub at : (m : ℕ) → m < n → Candidate permitted A m (get_or marks m false)
+  pub rest : (m : ℕ) → n ≤ m → get_or marks m false ≡ false

@@ -6,7 +6,7 @@
 // The list is an array with a length, since there is no heap; and no copy is made of eleven thousand bytes unasked.
 #[derive(Drop)]
 pub struct Pool {
-    pub marks: [u8; 512],
+    pub marks: [bool; 512],
     pub list: [u16; 512],
     pub n: usize,
     pub nums: [u8; 9216],

@@ -38,7 +38,7 @@ fn tried(here: Here, nums: &[u8; 9216], cand: &[u16], j: usize, m: u16) -> Optio
 #[cycle(node_stage)]
 fn node(
     here: Here,
-    marks: &[u8; 512],
+    marks: &[bool; 512],
     nums: &[u8; 9216],
     cand: &[u16],
     k: usize,
@@ -54,7 +54,7 @@ fn node(
         return None;
     }
     for i in m..512 {
-        if marks[i as usize] == 1 {
+        if marks[i as usize] {
             if let Some(masks) = stage(here, marks, nums, cand, k, i) {
                 return Some(masks);
             }
@@ -67,7 +67,7 @@ fn node(
 #[cycle(node_stage)]
 fn stage(
     here: Here,
-    marks: &[u8; 512],
+    marks: &[bool; 512],
     nums: &[u8; 9216],
     cand: &[u16],
     k: usize,
@@ -94,7 +94,7 @@ fn least_count(w: usize, h: usize) -> usize
 // The first list of k stages that sums to the cells. The quick search is asked first whether there may be one.
 fn of_length(
     cells: [u16; 16],
-    marks: &[u8; 512],
+    marks: &[bool; 512],
     need: [u8; 18],
     nums: &[u8; 9216],
     cand: &[u16],
@@ -121,7 +121,7 @@ fn by_length(
     cells: [u16; 16],
     w: usize,
     h: usize,
-    marks: &[u8; 512],
+    marks: &[bool; 512],
     need: [u8; 18],
     nums: &[u8; 9216],
     cand: &[u16],

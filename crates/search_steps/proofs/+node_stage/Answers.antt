@@ -1,10 +1,10 @@
 use native.Mathlib.Omega.{arith}
-use lib.Dec.{eqb→eq}
-use lib.ListN.{get_or}
+use mathlib.Core.Path.{subst}
+use lib.Dec.{T}
 use Rattle.rows.proofs.Sums.{zero_at}
 use Rattle.search.specs.Tree.{tries}
 use Rattle.search.proofs.Answers.{leaf_found, leaf_none, passed_more, passed_found, below_closed, below_found}
-use Rattle.search_steps.proofs.+node_stage.Goals.{node-then-marks-i-eq1+in_default, node-else-marks-i-eq1}
+use Rattle.search_steps.proofs.+node_stage.Goals.{node-then-marks-i+in_default, node-else-marks-i}
 use Rattle.search_steps.proofs.+node_stage.Goals as goal
 
 pub node-returns-then-finished : goal.node-returns-then-finished
@@ -26,9 +26,9 @@ node-loop-i-preserved t c =
     let a = c.args in
     let l = c.loop-i in
     passed_more (tries a.marks.now) _ _ a.k a.m (omega arith) l.i l.invariant
-    (elim c.if-marks-i-eq1.branch [
-      | node-then-marks-i-eq1+in_default w ↦ λ _. w.in_default.ensures
-      | node-else-marks-i-eq1 w ↦ λ e. absurd (w.if-marks-i-eq1.false (eqb→eq (get_or a.marks.now l.i 0) 1 e))
+    (elim c.if-marks-i.branch [
+      | node-then-marks-i+in_default w ↦ λ _. w.in_default.ensures
+      | node-else-marks-i w ↦ λ e. absurd (subst T w.if-marks-i.false e)
     ])
 
 pub stage-returns-in_err-masks : goal.stage-returns-in_err-masks
