@@ -6,7 +6,7 @@ use mathlib.Core.List.{List, [], ◌∷◌}
 use Prim.Native.Nat.{ℕ, zero, suc, ◌+◌, ◌≤◌, ◌<◌}
 use native.Mathlib.Nat.{eq-or-lt_of_le}
 use native.Mathlib.Omega.{arith}
-use lib.Dec.{T, eqb→eq}
+use lib.Dec.{T}
 use lib.ListN.{get_or, set, length-set, replicate}
 use lib.Seq.{get_or-set_same, get_or-set_other}
 use Rattle.plane.specs.Lists.{all, In}
@@ -15,7 +15,7 @@ use Rattle.plane.proofs.Tests.{T_dec, T_true, T_false, lt_or_le}
 use Rattle.masks.specs.Mask.{stage}
 use Rattle.masks.proofs.Cells.{stage_below}
 use Rattle.rows.specs.Cells.{Cells, Same, Sum, Residue, At, AtMask, AtSum, CutTo}
-use Rattle.rows.proofs.Sums.{Rows16, in_x, in_y, zero_at}
+use Rattle.rows.proofs.Sums.{Rows16, in_x, in_y}
 use Rattle.search.specs.Plans.{SumsTo}
 use Rattle.search.specs.Tree.{tries, Marks, Candidate, Candidates}
 use Rattle.rows.proofs.Addition.{same_refl, same_sym, same_trans, to_cell, add_cells, sum_both, sum_comm, sum_assoc}
