@@ -29,10 +29,8 @@ fn turnable(plan: &[u32], w: usize, h: usize, first: &[u8], second: &[u8]) -> bo
     ensures yes { result ≡ true → Turnable plan.now w h first.now second.now }
     ensures no { result ≡ false → Turnable plan.now w h first.now second.now → ⊥ }
 {
-    (2..=32).contains(&plan.len())
-        && !frame_grounds::bad_size(w, h)
-        && plane_bytes(w, h) <= first.len()
-        && plane_bytes(w, h) <= second.len()
+    let room = first.len().min(second.len());
+    (2..=32).contains(&plan.len()) && !frame_grounds::bad_size(w, h) && plane_bytes(w, h) <= room
 }
 
 // The stages of an operation, on the plane in the first image, and no cut. Returns the number of stages run; 0, with the images as they were, where there are
