@@ -20,7 +20,7 @@ fn eight(a: u8, b: u8, c: u8, d: u8, e: u8, f: u8, g: u8, h: u8, some: bool) -> 
 }
 
 // Each byte of d becomes eight cells of s, w cells apart. It stays a function by itself: taken into packing, its loop keeps less in registers, and packing a
-// small frame takes a quarter longer.
+// small frame takes a quarter more instructions.
 #[inline(never)]
 fn eights(d: &mut [u8], s: &[u8], w: usize, some: bool)
     requires { 7 * w + length d.old ≤ length s.now }
