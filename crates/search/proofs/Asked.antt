@@ -17,44 +17,11 @@ use Rattle.edges.specs.Edges.{Number}
 use Rattle.edges.specs.Numbers.{Numbered}
 use Rattle.edges.proofs.Adding.{number_same}
 use Rattle.edges.proofs.Greatest.{front_all}
-use Rattle.completions.specs.Completing.{Among, number_in}
-use Rattle.completions.proofs.Loops.{upto, put_kept, put_new, put_was}
+use Rattle.completions.specs.Completing.{number_in}
+use Rattle.completions.proofs.Loops.{upto}
 use Rattle.search.specs.Tree.{tries}
-use Rattle.search.specs.Asking.{Drawn, Stored, Tabled}
+use Rattle.search.specs.Asking.{Stored, Tabled}
 use Rattle.search.proofs.Reaches.{mask_reach}
-
--- ---- the list
-
-module _ (marks : List Bool) (list : List ℕ) (n m : ℕ) (l : m < 512) (d : Drawn marks m list n) where
-  pub drawn_more : T (tries marks m) → Drawn marks (m + 1) (set list n m) (n + 1)
-  drawn_more t =
-      let few = d.few in
-      let long = d.long in
-      record {
-        few = omega arith;
-        long = length-set list n m ∙ long;
-        all = λ s b u. ⊎_elim
-            (λ e. subst (λ (k : ℕ). Among (set list n m) (n + 1) k) (sym e) (put_new list n 1 m (omega arith) (omega arith)))
-            (λ w. put_kept list n 1 m s (d.all s w u))
-            (last_or s m b);
-        only = λ s a. ⊎_elim (d.only s) (λ w. subst (λ (k : ℕ). T (tries marks k)) (sym w.1) t) (put_was list n 1 m s (omega arith) (omega arith) a);
-      }
-
-  pub drawn_skip : (T (tries marks m) → ⊥) → Drawn marks (m + 1) (set list n m) n
-  drawn_skip f =
-      let few = d.few in
-      let long = d.long in
-      let e : n + 0 ≡ n = omega arith in
-      record {
-        few = omega arith;
-        long = length-set list n m ∙ long;
-        all = λ s b u. ⊎_elim
-            (λ g. absurd (f (subst (λ (k : ℕ). T (tries marks k)) g u)))
-            (λ w. subst (λ (k : ℕ). Among (set list n m) k s) e (put_kept list n 0 m s (d.all s w u)))
-            (last_or s m b);
-        only = λ s a. ⊎_elim (d.only s) (λ w. absurd (let z = w.0 in omega arith))
-            (put_was list n 0 m s (omega arith) (omega arith) (subst (λ (k : ℕ). Among (set list n m) k s) (sym e) a));
-      }
 
 -- ---- the table
 

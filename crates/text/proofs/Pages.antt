@@ -1,7 +1,7 @@
 -- Pages: more text is added at the end, where zeros stood.
 use mathlib.Core.Path.{◌≡◌, sym, ap, ap₂, subst, ◌∙◌}
 use mathlib.Core.Bool.{cond}
-use mathlib.Core.List.{List, [], ◌∷◌, ◌++◌, append_assoc, append-nil}
+use mathlib.Core.List.{List, [], ◌∷◌, ◌++◌, append_assoc}
 use Prim.Native.Nat.{ℕ, zero, suc, ◌+◌, ◌-◌, ◌/◌, ◌%◌, ◌≤◌, ◌<◌, min}
 use native.Mathlib.Numerals.{add-one}
 use native.Mathlib.Omega.{arith}
@@ -26,9 +26,6 @@ page_rest text p H = (
   ap₂ drop H.count H.bytes ∙ drop-append_seam text (replicate (288 - length text) 0) ∙ ap (λ k. replicate (288 - k) 0) (sym H.count),
 )
 
-pub added_none : (p : Page) → Added p [] p
-added_none p = record { held = λ text l H. subst (λ t. Holds t p) (sym (append-nil text)) H }
-
 pub added_then : (p q r : Page) (xs ys : List ℕ) → Added p xs q → Added q ys r → Added p (xs ++ ys) r
 added_then p q r xs ys F G = record {
   held = λ text l H.
@@ -36,15 +33,6 @@ added_then p q r xs ys F G = record {
       let m = length-append text xs in
       subst (λ t. Holds t r) (append_assoc text xs ys) (G.held (text ++ xs) (omega arith) (F.held text (omega arith) H));
 }
-
--- the next byte of a list
-pub added_more : (p q r : Page) (xs : List ℕ) (i : ℕ) → i < length xs → Added p (take i xs) q → Added q (get_or xs i 0 ∷ []) r → Added p (take (i + 1) xs) r
-added_more p q r xs i h F G =
-    subst (λ l. Added p l r) (sym (ap (λ k. take k xs) (add-one i) ∙ take-suc xs i 0 h)) (added_then p q r (take i xs) (get_or xs i 0 ∷ []) F G)
-
--- no byte is left
-pub added_end : (p r : Page) (xs : List ℕ) (i : ℕ) → length xs ≤ i → Added p (take i xs) r → Added p xs r
-added_end p r xs i h F = subst (λ l. Added p l r) (take_all i xs h) F
 
 -- one byte
 pub added_byte : (p r : Page) (b : ℕ) → r.n ≡ p.n + 1 → r.bytes ≡ set p.bytes p.n b → Added p (b ∷ []) r

@@ -8,8 +8,8 @@ use native.Mathlib.Nat.{pow-le-pow_right, pow-suc}
 use native.Mathlib.Numerals.{add-one}
 use native.Mathlib.Omega.{arith}
 use lib.Dec.{T, ltb, lt→ltb, ltb→lt, nltb→le}
-use lib.ListN.{length, take, drop, get_or, length-append}
-use lib.Seq.{take_all, take-append-le, take-suc}
+use lib.ListN.{length, take, drop, length-append}
+use lib.Seq.{take_all, take-append-le}
 use Rattle.plane.specs.Lists.{all}
 use Rattle.plane.proofs.Tests.{T_and, T_dec}
 use Rattle.planning.specs.Printer.{digit, word_lines, Reads}
@@ -62,21 +62,8 @@ module _ (seen : List ℕ) (s : Reading) (H : Held seen s) where
 
 -- ---- more bytes
 
-pub further_none : (s : Reading) → Further s [] s
-further_none s = record { held = λ seen H. subst (λ l. Held l s) (sym (append-nil seen)) H }
-
 pub further_then : (s t r : Reading) (xs ys : List ℕ) → Further s xs t → Further t ys r → Further s (xs ++ ys) r
 further_then s t r xs ys F G = record { held = λ seen H. subst (λ l. Held l r) (append_assoc seen xs ys) (G.held (seen ++ xs) (F.held seen H)) }
-
--- the next byte of a list
-pub further_more : (s t r : Reading) (xs : List ℕ) (i : ℕ) → i < length xs → Further s (take i xs) t → Further t (get_or xs i 0 ∷ []) r
-    → Further s (take (i + 1) xs) r
-further_more s t r xs i h F G =
-    subst (λ l. Further s l r) (sym (ap (λ k. take k xs) (add-one i) ∙ take-suc xs i 0 h)) (further_then s t r (take i xs) (get_or xs i 0 ∷ []) F G)
-
--- no byte is left
-pub further_end : (s r : Reading) (xs : List ℕ) (i : ℕ) → length xs ≤ i → Further s (take i xs) r → Further s xs r
-further_end s r xs i h F = subst (λ l. Further s l r) (take_all i xs h) F
 
 -- what has been bad stays bad
 pub stays_bad : (s r : Reading) (more : List ℕ) → s.bad ≡ true → r.bad ≡ true → Further s more r
