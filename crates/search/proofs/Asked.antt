@@ -1,14 +1,12 @@
 -- The list and the table that the quick search is asked with, a mask at a time; and what its answer says of lists that sum to the cells.
 use mathlib.Core.Bool.{Bool}
-use mathlib.Core.Path.{◌≡◌, sym, subst, ◌∙◌}
+use mathlib.Core.Path.{sym, subst, ◌∙◌}
 use mathlib.Core.Bool.{false}
 use mathlib.Core.Logic.{⊎_elim}
 use mathlib.Core.List.{List}
-use Prim.Native.Nat.{ℕ, ◌+◌, ◌*◌, ◌%◌, ◌<◌}
-use native.Mathlib.Omega.{arith}
+use Prim.Native.Nat.{ℕ, ◌+◌, ◌%◌, ◌<◌}
 use lib.Dec.{T}
-use lib.ListN.{length, get_or, set, length-set}
-use lib.Seq.{get_or-set_same, get_or-set_other}
+use lib.ListN.{get_or}
 use Rattle.masks.specs.Mask.{stage}
 use Rattle.rows.specs.Cells.{Same, At, AtMask}
 use Rattle.rows.proofs.Addition.{same_trans, stage_rows}
@@ -18,26 +16,11 @@ use Rattle.edges.specs.Numbers.{Numbered}
 use Rattle.edges.proofs.Adding.{number_same}
 use Rattle.edges.proofs.Greatest.{front_all}
 use Rattle.completions.specs.Completing.{number_in}
-use Rattle.completions.proofs.Loops.{upto}
 use Rattle.search.specs.Tree.{tries}
 use Rattle.search.specs.Asking.{Stored, Tabled}
 use Rattle.search.proofs.Reaches.{mask_reach}
 
 -- ---- the table
-
-module _ (table : List ℕ) (m : ℕ) (numbers : List ℕ) where
-  pub stored_more : (i : ℕ) (t : List ℕ) → i < 18 → m < 512 → length table ≡ 9216 → Stored table m numbers i t → Stored table m numbers (i + 1)
-      (set t (m * 18 + i) (get_or numbers i 0))
-  stored_more i t l b len h =
-      let v = get_or numbers i 0 in
-      let long = h.long in
-      record {
-        long = length-set t (m * 18 + i) v ∙ long;
-        new = upto (λ k. number_in (set t (m * 18 + i) v) k m ≡ get_or numbers k 0) i
-            (λ k q. get_or-set_other t (m * 18 + i) (m * 18 + k) v 0 (λ e. omega arith) ∙ h.new k q)
-            (get_or-set_same t (m * 18 + i) v 0 (omega arith));
-        kept = λ s k q w. get_or-set_other t (m * 18 + i) (s * 18 + k) v 0 (λ e. omega arith) ∙ h.kept s k q w;
-      }
 
 module _ (marks : List Bool) (table : List ℕ) (m : ℕ) (h : Tabled marks m table) where
   pub tabled_skip : (T (tries marks m) → ⊥) → Tabled marks (m + 1) table
