@@ -2,7 +2,7 @@
 #![tactic(auto)]
 
 ghost use Rattle.std.specs.Prelude.{◌≡◌};
-ghost use Rattle.words.specs.Ground.{number_of, Tried};
+ghost use Rattle.words.specs.Ground.{number_of, Tried, TriedAfter};
 ghost use Rattle.words.specs.Read.{word_of};
 
 // A word, read by its kind.
@@ -22,6 +22,7 @@ pub fn read(w: u32) -> Word
 {
     let kind = w / 0x1000_0000;
     match kind {
+        0 => Word::Unused(0),
         1 => Word::Anchor {
             ax: w % 16,
             ay: w / 16 % 16,
@@ -36,6 +37,7 @@ pub fn read(w: u32) -> Word
             y: w / 256 % 256,
         },
         5 => Word::Stage(w % 512),
+        6..=15 => Word::Unused(kind),
         _ => Word::Unused(kind),
     }
 }
@@ -95,4 +97,18 @@ pub fn tried(holds: bool, ground: Ground) -> Result<(), Ground>
     ensures { Tried holds ground result }
 {
     if holds { Err(ground) } else { Ok(()) }
+}
+
+// One ground more behind an answer so far: its refusal where it is one; else the ground's where its test holds, and what was answered where it fails.
+pub fn tried_behind<T: Drop>(
+    so_far: Result<T, Ground>,
+    holds: bool,
+    ground: Ground,
+) -> Result<T, Ground>
+    ensures { TriedAfter so_far holds ground result }
+{
+    match so_far {
+        Err(first) => Err(first),
+        Ok(answer) => tried(holds, ground).map(|_| answer),
+    }
 }
