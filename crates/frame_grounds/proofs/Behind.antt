@@ -1,7 +1,7 @@
 -- Tests that come behind others: they decide where none of the first holds.
-use mathlib.Core.Path.{◌≡◌, refl, sym, ◌∙◌, ap}
+use mathlib.Core.Path.{◌≡◌, sym, ◌∙◌, ap}
 use mathlib.Core.Logic.{◌⊎◌, inl, inr}
-use mathlib.Core.Bool.{true, false, not, cond}
+use mathlib.Core.Bool.{not, cond}
 use mathlib.Core.List.{List, ◌++◌}
 use lib.Dec.{T, eqb, eqb→eq}
 use Rattle.plane.proofs.Tests.{T_dec, T_true, T_false, clash, eq-eqb}

@@ -54,16 +54,17 @@ pub fn frame_refusal(w: usize, h: usize, frame: &[u8]) -> Result<(), Ground>
 }
 
 // What refuses a frame that is put into a grid of the image: the first of grounds 11 to 14 that holds.
-#[tactic(auto, unfolding(grids::specs::Frame::frame_tests, grids::specs::Grid::put_tests))]
 pub fn put_refusal(w: usize, h: usize, frame: &[u8], image: &[u8]) -> Result<(), Ground>
     ensures { refused_by result ≡ first_of (put_tests w h frame.now image.now) }
 {
-    frame_refusal(w, h, frame)?;
-    words::tried(sizes::short_image(w, h, image), Ground::ImageLength)
+    words::tried_behind(
+        frame_refusal(w, h, frame),
+        sizes::short_image(w, h, image),
+        Ground::ImageLength,
+    )
 }
 
 // What refuses a frame whose greatest number is this, and two work images: the first of grounds 11 to 14 that holds, 14 over both images.
-#[tactic(auto, unfolding(crate::specs::Looking::frame_tests_by, crate::specs::Looking::work_tests_by))]
 pub fn work_refusal(
     w: usize,
     h: usize,
@@ -74,8 +75,8 @@ pub fn work_refusal(
 ) -> Result<(), Ground>
     ensures { refused_by result ≡ first_of (work_tests_by w h frame.now greatest first.now second.now) }
 {
-    frame_tested(w, h, frame, greatest)?;
-    words::tried(
+    words::tried_behind(
+        frame_tested(w, h, frame, greatest),
         sizes::short_images(w, h, first, second),
         Ground::ImageLength,
     )

@@ -1,11 +1,13 @@
--- What the frame is refused by refuses the call.
-use Rattle.std.proofs.Common.{arith}
-use Rattle.std.proofs.lemmas.Result.{err_from_is_err_and}
+-- The tests of the frame, and the one of the image more.
 use Rattle.grids.specs.Frame.{frame_tests}
 use Rattle.grids.specs.Grid.{put_tests}
+use Rattle.words.proofs.Refusals.{tried_more}
+use Rattle.frame_grounds.proofs.Accepted.{size_passes}
 use Rattle.frame_grounds.proofs.put_refusal.Goals as goal
 
-pub returns-in_err-frame_refusal : goal.returns-in_err-frame_refusal
+pub returns : goal.returns
 unfolding frame_tests put_tests
-returns-in_err-frame_refusal c =
-    let p = err_from_is_err_and c.from_residual.result c.from_residual.ensures.1 in rw (p.1, p.2) (grind arith)
+returns c =
+    let a = c.args in
+    tried_more c.tried_behind.ensures (frame_tests a.w a.h a.frame.now) _ tt c.frame_refusal.ensures
+    (λ z. c.short_image.ensures (size_passes a.w a.h a.frame.now z))
