@@ -2,7 +2,7 @@
 // (size), and the bit that a level of a cell is (level_bit). What is done with planes is in plane_pack_steps, plane_stage_steps and plane_unpack_steps.
 #![tactic(auto)]
 
-ghost use Rattle.std.specs.Prelude.{◌≡◌, ◌<◌, ◌≤◌};
+ghost use Rattle.std.specs.Prelude.{◌≡◌, ◌<◌, ◌≤◌, ◌⊎◌};
 ghost use Rattle.planes.specs.Bits.{level_bit};
 ghost use Rattle.planes.specs.Planes.{plane_sides, plane_size, place_of};
 
@@ -40,12 +40,16 @@ pub fn sides(plane: Sides) -> bool
     1 <= plane.rows && plane.columns <= 65535 && plane.rows <= 65535 && plane.outside <= 1
 }
 
-// The bytes that a plane of these sides takes.
+// The bytes that a plane of these sides takes; 0 of sides past 65,535, of which no plane is made.
 pub fn size(plane: Sides) -> usize
-    requires { (plane.columns ≤ 65535) × (plane.rows ≤ 65535) }
-    ensures { result ≡ plane_size plane.columns plane.rows }
+    ensures of_a_plane { plane.columns ≤ 65535 → plane.rows ≤ 65535 → result ≡ plane_size plane.columns plane.rows }
+    ensures of_others { (65535 < plane.columns) ⊎ (65535 < plane.rows) → result ≡ 0 }
 {
-    ((plane.rows + 7) / 8 + 2) * (plane.columns + 2) + 2
+    if plane.columns <= 65535 && plane.rows <= 65535 {
+        ((plane.rows + 7) / 8 + 2) * (plane.columns + 2) + 2
+    } else {
+        0
+    }
 }
 
 // A level of a cell that is 0, 1 or 2: whether it is 1, or, if some, whether it is not 0.
