@@ -132,7 +132,7 @@ impl Shape {
         ensures { Made (Anchored w) (window_points w.rows (w.ax, w.ay)) result }
     {
         let Window { ax, ay, rows } = w;
-        if ax > 15 || ay > 15 {
+        if ax > 15 || ay > 15 || extent_steps::empty(rows) {
             return nothing();
         }
         let (Some(i), Some(j)) = (

@@ -161,10 +161,10 @@ fn deepening(cells: [u16; 16], w: usize, h: usize) -> Option<Chosen>
 pub fn shortest(cells: [u16; 16]) -> Option<Chosen>
     ensures { Shortest isStage (At cells) result }
 {
-    let w = extent_steps::last_column(cells)? as usize;
-    let h = extent_steps::last_row(cells)?;
-    if !face_steps::may_be_sum(cells) {
+    if extent_steps::empty(cells) || !face_steps::may_be_sum(cells) {
         return None;
     }
+    let w = extent_steps::last_column(cells)? as usize;
+    let h = extent_steps::last_row(cells)?;
     deepening(cells, w, h)
 }
