@@ -21,7 +21,7 @@ use Rattle.masks.specs.Mask.{mask_points}
 use Rattle.grids.specs.Frame.{over, frame, grid_size, short_image, frame_tests, load, LoadCounted}
 use Rattle.grids.specs.Grid.{outside_of, corner, grid, laid, put, written, put_tests, FramePut, stage_tests, Staged}
 use Rattle.grids.specs.Rules.{Gives}
-use Rattle.grids.specs.Share.{ShareAnswer, exact, measured, share_tests, TenThousandths, Shared}
+use Rattle.grids.specs.Share.{ShareAnswer, measured, share_tests, TenThousandths, Shared}
 use Rattle.grids.specs.declared.Around.{Around}
 use Rattle.grids.specs.declared.Around.TheVariants.{Free, Occupied}
 use Rattle.grids.proofs.Load.{load_points, measured_points_lem}

@@ -1,6 +1,6 @@
 -- What the owner's demand 2 speaks of, in the documents' own words: what lists, masks and loads show, by points of the plane. Of the crates below it names the
 -- layouts, frames with a value outside them, and the plane's definitions.
-use Rattle.std.specs.Prelude.{◌≡◌, not, List, ℕ, ◌+◌, ◌*◌, ◌<◌, eqb, ℤ, pos, length, take, drop}
+use Rattle.std.specs.Prelude.{◌≡◌, not, List, ℕ, ◌+◌, ◌*◌, ◌<◌, eqb, ℤ, pos, length, take, drop, Ok}
 use Rattle.plane.specs.Lists.{In, keep}
 use Rattle.plane.specs.Point.{Point, PointSet, ◌≐◌, moved}
 use Rattle.words.specs.Ground.{stated}
@@ -9,7 +9,7 @@ use Rattle.masks.specs.Mask.{mask_points}
 use Rattle.shapes.specs.Listed.{listed}
 use Rattle.shapes.specs.Shape.{shape_points}
 use Rattle.planning.specs.Planning.{ShapeSet}
-use Rattle.grids.specs.Share.{ShareAnswer, exact}
+use Rattle.grids.specs.Share.{ShareAnswer}
 use Rattle.grids.specs.Frame.{free, full, frame}
 use Rattle.grids.specs.Image.{cells}
 
@@ -49,6 +49,6 @@ measured_points W H f = length (keep (λ p. not (eqb (frame free W H f p) 2)) (c
 pub record ShareShows (n m : ℕ) (a : ShareAnswer) : Type 0 where
   pub quotient : ℕ
   pub remainder : ℕ
-  pub answer : a ≡ exact quotient remainder
+  pub answer : a ≡ Ok (record { quotient = quotient; remainder = remainder })
   pub whole : quotient * m + remainder ≡ 10000 * n
   pub below : remainder < m
