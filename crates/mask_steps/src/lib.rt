@@ -36,7 +36,9 @@ fn led(a: [u16; 16]) -> [u16; 18]
     ensures { (get_or result 0 0 ≡ 0) × ((get_or result 1 0 ≡ 0) × ((q : ℕ) → get_or result (q + 2) 0 ≡ get_or a q 0)) }
 {
     let mut r = [0u16; 18];
-    r[2..].copy_from_slice(&a);
+    for y in 0..16 {
+        r[y + 2] = a[y];
+    }
     r
 }
 
@@ -73,7 +75,9 @@ fn trailed(t: [u16; 16]) -> [u16; 18]
     ensures { (q : ℕ) → get_or result q 0 ≡ get_or t q 0 }
 {
     let mut r = [0u16; 18];
-    r[..16].copy_from_slice(&t);
+    for y in 0..16 {
+        r[y] = t[y];
+    }
     r
 }
 

@@ -18,5 +18,7 @@ pub fn copy(d: &mut [u8], s: &[u8])
     ensures { Ranged 0 0 (min (length d.old) (length s.now)) (λ k. get_or s.now k 0) d.old d.new }
 {
     let n = d.len().min(s.len());
-    d[..n].copy_from_slice(&s[..n]);
+    for k in 0..n {
+        d[k] = s[k];
+    }
 }
