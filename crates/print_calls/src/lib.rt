@@ -1,7 +1,7 @@
 // What the program `shapeplan` prints for what it reads: planning between reading and printing of text. No input and no output.
 #![tactic(auto)]
 
-ghost use Rattle.std.specs.Prelude.{◌≤◌, take};
+ghost use Rattle.std.specs.Prelude.{◌≡◌, ◌≤◌, min, take};
 ghost use Rattle.planning.specs.Printer.{Printed, PrintedFor};
 ghost use Rattle.text.specs.Page.{Blank};
 ghost use Rattle.print_calls.specs.Answers.{Answers, PageShows};
@@ -12,6 +12,13 @@ use words::Answer;
 // So many words of the input are kept.
 const KEPT: usize = 18;
 
+// How many words of the output list an answer of n stands for: no more than it has.
+fn words_of(n: u32) -> usize
+    ensures { result ≡ min n 32 }
+{
+    (n as usize).min(32)
+}
+
 // The page of an answer that planning gave, with the output list as it left it.
 fn shown(answer: Answer, out: [u32; 32]) -> Page
     ensures text { PageShows answer out (take result.n result.bytes) }
@@ -19,7 +26,7 @@ fn shown(answer: Answer, out: [u32; 32]) -> Page
     ensures past { Blank result }
 {
     match answer {
-        Ok(n) => page_steps::words_page(&out[..(n as usize).min(32)]),
+        Ok(n) => page_steps::words_page(&out[..words_of(n)]),
         Err(g) => page_steps::refused_page(u32::from(g)),
     }
 }

@@ -27,7 +27,11 @@ pub fn same(a: [u16; 16], b: [u16; 16]) -> bool
     ensures yes { result ≡ true → Same (At a) (At b) }
     ensures no { result ≡ false → Same (At a) (At b) → ⊥ }
 {
-    a == b
+    let mut all = true;
+    for i in 0..16 {
+        all &= a[i] == b[i];
+    }
+    all
 }
 
 // The rows of a 3×3 mask.

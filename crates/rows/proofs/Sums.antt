@@ -117,3 +117,9 @@ bit_same p q x f g = ⊎_elim
 pub same_rows : (a b : List ℕ) → Rows16 a → Rows16 b → Same (At a) (At b) → a ≡ b
 same_rows a b wa wb s = ext_get_or 0 a b (wa.rows ∙ sym wb.rows) (λ q l.
     bits_ext 16 (get_or a q 0) (get_or b q 0) (wa.words q) (wb.words q) (λ x k. bit_same (get_or a q 0) (get_or b q 0) x (s.to x q) (s.from x q)))
+
+pub rows_same : (a b : List ℕ) → Rows16 a → Rows16 b → ((q : ℕ) → q < 16 → get_or a q 0 ≡ get_or b q 0) → Same (At a) (At b)
+rows_same a b wa wb e = record {
+  to = λ x y h. ap (λ (n : ℕ). bit n x) (sym (e y (in_y a wa x y h))) ∙ h;
+  from = λ x y h. ap (λ (n : ℕ). bit n x) (e y (in_y b wb x y h)) ∙ h;
+}

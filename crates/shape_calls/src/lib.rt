@@ -3,7 +3,9 @@
 #![tactic(auto)]
 
 ghost use Rattle.std.specs.Prelude.{◌≡◌};
+ghost use Rattle.std.specs.Option.{ok_or};
 ghost use Rattle.words.specs.Ground.{first_of};
+ghost use Rattle.words.specs.declared.Ground.TheVariants.{OutputLength};
 ghost use Rattle.shapes.specs.Plan.{plan_points, plan_tests};
 ghost use Rattle.shapes.specs.Calls.{ListAnswered, Moved, Joined, Summed, TurnedBack};
 ghost use Rattle.elements.specs.Standing.{points_of, Made};
@@ -40,6 +42,13 @@ fn read_plan(ws: &[u32]) -> Shape
     }
 }
 
+// The length of the list that was written; where there was no room for one, the ground that says so.
+fn answered(written: Option<u32>) -> Answer
+    ensures { result ≡ ok_or written OutputLength }
+{
+    written.ok_or(Ground::OutputLength)
+}
+
 // Writes the list of a shape. What is no shape is out of range; nothing is written before both grounds are tried.
 fn write_shape(s: Shape, out: &mut [u32]) -> Answer
     requires { Returned s }
@@ -49,7 +58,7 @@ fn write_shape(s: Shape, out: &mut [u32]) -> Answer
         return Err(Ground::OutOfRange);
     }
     let cells = s.window();
-    word_steps::write_list(cells.ax, cells.ay, cells.rows, out).ok_or(Ground::OutputLength)
+    answered(word_steps::write_list(cells.ax, cells.ay, cells.rows, out))
 }
 
 // Moving: the list of the shape with dx and dy added to x and y of each point.

@@ -7,7 +7,7 @@ use Rattle.print_calls.proofs.shown.Goals as goal
 pub returns-in-Ok : goal.returns-in-Ok
 returns-in-Ok c =
     let q = page_rest _ _ c.words_page.ensures in
-    record { text = shows_plan _ _ _ _ _ c.in-Ok.is (omega arith) c.min.ensures c.words_page.ensures; room = q.0; past = q.1 }
+    record { text = shows_plan _ _ _ _ _ c.in-Ok.is (omega arith) c.words_of.ensures c.words_page.ensures; room = q.0; past = q.1 }
 
 pub returns-in-Err : goal.returns-in-Err
 returns-in-Err c =

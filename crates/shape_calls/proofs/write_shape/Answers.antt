@@ -20,4 +20,4 @@ returns c =
     let win = c.window-cells in
     let R = rows16 s.rows _ c.well_formed.0.1.1.1.1.1.0 in
     let l = window_words s R (fits_sound s c.requires f) win.result (rows16 win.result.rows _ win.type_inv.1.1.1.1.0) win.ensures in
-    subst (λ a. ListAnswered (writing_tests s out) (points_of s) out a w.new.out) (sym c.ok_or.ensures.value) (write_answered s out f _ l w.result _ w.ensures)
+    subst (λ a. ListAnswered (writing_tests s out) (points_of s) out a w.new.out) (sym c.answered.ensures) (write_answered s out f _ l w.result _ w.ensures)
